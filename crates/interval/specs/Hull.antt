@@ -1,0 +1,28 @@
+-- The value of a binary64 as a fraction, and its hull in marks. Assumes nothing.
+use mathlib.Core.Bool.{Bool, true, false}
+use Prim.Native.Nat.{ℕ, _*_}
+use lib.IntN.{ℤ, pos, negℤ}
+use lib.Ieee.{Float, nan, inf, fin, up, down}
+use lib.Ieee.Fits.{down-pos}
+use Rattle.rational.specs.Fraction.{Fraction, whole, _*ᶠ_}
+use Rattle.interval.specs.declared.marks.Interval.{Interval}
+use Rattle.interval.specs.Interval.{interval, floorDiv, ceilDiv}
+
+-- n, or -n
+abbrev pub signed : Bool → ℕ → ℤ
+signed false n = pos n
+signed true n = negℤ (pos n)
+
+-- the exact value; 0 for what is not finite
+abbrev pub value : Float → Fraction
+value nan = whole (pos 0)
+value (inf s) = whole (pos 0)
+value (fin s m e) = record { num = signed s (m * up e); den = down e; above = down-pos e }
+
+-- a fraction rounded down and up
+abbrev pub rounded : Fraction → Interval
+rounded a = interval (floorDiv (a .num) (a .den)) (ceilDiv (a .num) (a .den))
+
+-- the value times the scale, rounded down and up
+unfoldable pub hull : ℕ → Float → Interval
+hull S x = rounded (value x *ᶠ whole (pos S))

@@ -1,0 +1,5 @@
+pub mod Scale
+pub mod Interval
+pub mod Hull
+pub mod Kind
+pub mod NamedKinds

@@ -1,0 +1,4 @@
+pub mod Reaches
+pub mod PlainLaws
+pub mod MeetLaws
+pub mod Joint

@@ -1,0 +1,4 @@
+pub mod Reach
+pub mod Value
+pub mod Method
+pub mod Quadratic

@@ -1,0 +1,60 @@
+-- The quadratic range: a joint range for a linear and a square term of one variable. Assumes nothing.
+use mathlib.Core.Bool.{Bool, cond, not, _&&_}
+use mathlib.Core.List.{List, [], _∷_}
+use Prim.Native.Nat.{zero, suc, _*_}
+use lib.Dec.{eqb, leb}
+use lib.IntN.{ℤ, pos, negsuc, negℤ, natAbs, _+ℤ_, _-ℤ_, _*ℤ_}
+use lib.Signed.{leZ}
+use Rattle.std.specs.Numbers.{minZ, maxZ}
+use Rattle.interval.specs.declared.marks.Interval.{Interval}
+use Rattle.interval.specs.Interval.{interval, zero-interval, is-zero, floorDiv, ceilDiv, plus}
+use Rattle.polynomial.specs.declared.term.Term.{Term}
+use Rattle.table.specs.Monomial.{Monomial, degree, multiplied, even, root}
+use Rattle.polynomial.specs.Reach.{reach, coefficient-at}
+use Rattle.polynomial.specs.Method.{Lawful}
+
+-- the vertex -b²/(4a) of a·u² + b·u, rounded down and rounded up
+abbrev pub vertex-down : ℤ → ℤ → ℤ
+vertex-down (pos zero) b = pos 0
+vertex-down (pos (suc k)) b = floorDiv (negℤ (b *ℤ b)) (4 * suc k)
+vertex-down (negsuc k) b = floorDiv (b *ℤ b) (4 * suc k)
+
+abbrev pub vertex-up : ℤ → ℤ → ℤ
+vertex-up (pos zero) b = pos 0
+vertex-up (pos (suc k)) b = ceilDiv (negℤ (b *ℤ b)) (4 * suc k)
+vertex-up (negsuc k) b = ceilDiv (b *ℤ b) (4 * suc k)
+
+-- the joint range of a·u² and b·u: of a - b, a + b and, if |b| is at most 2|a|, the vertex
+unfoldable pub joint : ℤ → ℤ → Interval
+joint a b =
+    let turns = leb (natAbs b) (2 * natAbs a) in
+    let low = minZ (a -ℤ b) (a +ℤ b) in
+    let high = maxZ (a -ℤ b) (a +ℤ b) in
+    interval (cond turns (minZ (vertex-down a b) low) low) (cond turns (maxZ (vertex-up a b) high) high)
+
+-- a term is there, with equal ends
+abbrev pub point : Interval → Bool
+point c = not (is-zero c) && (leZ (c .upper) (c .lower) && leZ (c .lower) (c .upper))
+
+-- the terms of u and of u² are both there, with equal ends
+abbrev pub paired : List Term → Monomial → Bool
+paired ts u = point (coefficient-at ts u) && point (coefficient-at ts (multiplied u u))
+
+-- a term's part of the range: a pair's stands at its square
+abbrev pub part : List Term → Term → Interval
+part ts t =
+    let m = t .monomial in
+    let plain-part = reach m (t .coefficient) in
+    cond (eqb (degree m) 1) (cond (paired ts m) zero-interval plain-part)
+    (cond (eqb (degree m) 2 && (even m && paired ts (root m))) (joint (t .coefficient .lower) (coefficient-at ts (root m) .lower)) plain-part)
+
+abbrev pub parts : List Term → List Term → Interval
+parts ts [] = zero-interval
+parts ts (u ∷ us) = plus (part ts u) (parts ts us)
+
+unfoldable pub quadratic : List Term → Interval
+quadratic ts = parts ts ts
+
+-- the quadratic range keeps the laws of a method
+abbrev pub Quadratic-lawful : Type 0
+Quadratic-lawful = Lawful quadratic

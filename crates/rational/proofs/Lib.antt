@@ -1,0 +1,6 @@
+pub mod Solver
+pub mod Whole
+pub mod Rational
+pub mod Certificate
+pub mod Order
+pub mod Powers

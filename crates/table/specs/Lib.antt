@@ -1,0 +1,3 @@
+pub mod Monomial
+pub mod Order
+pub mod Table
