@@ -4,3 +4,4 @@ pub mod Rational
 pub mod Certificate
 pub mod Order
 pub mod Powers
+pub mod Laws
