@@ -2,6 +2,8 @@
 mod kind; // what a kind of coefficient is
 mod kinds; // whole, fixed and interval
 mod marks; // an interval: two ends in marks
+mod reason; // why something is refused
+mod refusal; // a reason with a line and a place
 mod scale; // how many marks make a unit
 mod variable; // an input with its ends
 
@@ -13,5 +15,22 @@ pub use kinds::KindInterval;
 pub use kinds::KindWhole;
 pub use kinds::WholeKind;
 pub use marks::Interval;
+pub use marks::IntervalDebug;
+pub use marks::IntervalEq;
+pub use marks::IntervalPartialEq;
+pub use reason::Reason;
+pub use reason::ReasonDebug;
+pub use reason::ReasonDisplay;
+pub use reason::ReasonEq;
+pub use reason::ReasonPartialEq;
+pub use refusal::Refusal;
+pub use refusal::RefusalDebug;
+pub use refusal::RefusalDisplay;
+pub use refusal::RefusalEq;
+pub use refusal::RefusalPartialEq;
 pub use scale::Scale;
+pub use scale::ScaleDebug;
+pub use scale::ScaleEq;
+pub use scale::ScalePartialEq;
 pub use variable::Variable;
+pub use variable::VariableDebug;
