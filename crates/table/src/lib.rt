@@ -1,5 +1,14 @@
 // Ascending tables: keys with a total order, one search, one entry a key.
-mod order; // keys with a total order, entries under keys
+mod exponents; // monomials by value
+mod lookup; // entries under keys, and the one search
+mod order; // keys with a total order
 
-pub use order::Entry;
+pub use exponents::Monomial;
+pub use exponents::all_even;
+pub use exponents::degree;
+pub use exponents::product;
+pub use exponents::square_root;
+pub use lookup::Entry;
+pub use order::ByDegree;
+pub use order::ByNumber;
 pub use order::TotalOrder;

@@ -1,6 +1,8 @@
-// Keys with a total order, and the entries of an ascending table.
+// Keys with a total order: offices by number, monomials by degree.
 ghost use mathlib.Core.Path.{_≡_};
-ghost use Rattle.table.specs.Order.{Order};
+ghost use Rattle.table.specs.Order.{Order, by-number, by-degree};
+use crate::exponents::Monomial;
+use crate::exponents::degree;
 use std::cmp::Ordering;
 
 pub trait TotalOrder: Copy {
@@ -10,12 +12,19 @@ pub trait TotalOrder: Copy {
         ensures value { λ r. ⌜ r ≡ order .rank self other ⌝ };
 }
 
-// What lies in a table under a key.
-pub trait Entry: Copy {
-    type Key: TotalOrder;
+pub impl TotalOrder for u8 as ByNumber {
+    ghost order = { by-number };
 
-    ghost keyed: { Self → Self·Key };
+    fn compare(self, other: u8) -> Ordering {
+        self.cmp(&other)
+    }
+}
 
-    fn key(&self) -> Self::Key
-        ensures value { λ r. ⌜ r ≡ keyed (now (self .entry)) ⌝ };
+// At equal degree the larger exponent at the first difference comes first.
+pub impl TotalOrder for Monomial as ByDegree {
+    ghost order = { by-degree };
+
+    fn compare(self, other: Monomial) -> Ordering {
+        degree(self).cmp(&degree(other)).then(other.cmp(&self))
+    }
 }

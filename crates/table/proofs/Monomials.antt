@@ -1,0 +1,56 @@
+-- Monomials place by place: products add exponents and degrees. Assumes nothing.
+use mathlib.Core.Path.{_≡_, refl, sym, ap, _∙_}
+use mathlib.Core.Bool.{false, _&&_}
+use mathlib.Core.List.{List, [], _∷_}
+use Prim.Native.Nat.{ℕ, zero, suc, _+_, _/_, _%_, _<_}
+use native.Mathlib.Omega.{arith}
+use borrow.Author.Tests.{eq-eqb, ne-eqb}
+use lib.ListN.{length, getD, drop}
+use Rattle.std.proofs.shelf.Lists.{ext-getD, length-map, getD-map, at-drop-more}
+use Rattle.std.proofs.shelf.Sums.{sumBy-cons}
+use Rattle.table.specs.Monomial.{Monomial, degree, even, multiplied, root}
+
+pub length-multiplied : (m n : Monomial) → length m ≡ length n → length (multiplied m n) ≡ length m
+length-multiplied [] n e = refl
+length-multiplied (a ∷ m) [] e = omega arith
+length-multiplied (a ∷ m) (b ∷ n) e = ap suc (length-multiplied m n (omega arith))
+
+pub getD-multiplied : (m n : Monomial) (k : ℕ) → length m ≡ length n → k < length m → getD (multiplied m n) k 0 ≡ getD m k 0 + getD n k 0
+getD-multiplied [] n k e h = absurd (omega arith)
+getD-multiplied (a ∷ m) [] k e h = absurd (omega arith)
+getD-multiplied (a ∷ m) (b ∷ n) zero e h = refl
+getD-multiplied (a ∷ m) (b ∷ n) (suc k) e h = getD-multiplied m n k (omega arith) (omega arith)
+
+-- degrees add
+pub degree-multiplied : (m n : Monomial) → length m ≡ length n → degree (multiplied m n) ≡ degree m + degree n
+degree-multiplied [] [] e = refl
+degree-multiplied [] (b ∷ n) e = absurd (omega arith)
+degree-multiplied (a ∷ m) [] e = absurd (omega arith)
+degree-multiplied (a ∷ m) (b ∷ n) e =
+    let id : ℕ → ℕ = λ x. x in
+    omega (
+      arith,
+      sumBy-cons id a m,
+      sumBy-cons id b n,
+      sumBy-cons id (a + b) (multiplied m n),
+      degree-multiplied m n (omega arith),
+    )
+
+-- what is the sum at every place is the product
+pub is-multiplied : (m n s : Monomial) → length s ≡ length m → length m ≡ length n → ((k : ℕ) → k < length m → getD s k 0 ≡ getD m k 0 + getD n k 0) → s ≡ multiplied m n
+is-multiplied m n s l e h =
+    ext-getD 0 s (multiplied m n) (l ∙ sym (length-multiplied m n e))
+    (λ k b. let low : k < length m = omega arith in h k low ∙ sym (getD-multiplied m n k e low))
+
+-- what is half at every place is the root
+pub is-root : (m s : Monomial) → length s ≡ length m → ((k : ℕ) → k < length m → getD s k 0 ≡ getD m k 0 / 2) → s ≡ root m
+is-root m s l h =
+    ext-getD 0 s (root m) (l ∙ sym (length-map m (λ e. e / 2)))
+    (λ k b. let low : k < length m = omega arith in h k low ∙ sym (getD-map (λ e. e / 2) m k 0 0 low))
+
+-- from place i on, by the exponent there
+pub odd-at : (m : Monomial) (i : ℕ) → i < length m → (getD m i 0 % 2 ≡ 0 → ⊥) → even (drop i m) ≡ false
+odd-at m i h odd = at-drop-more even m i 0 h ∙ ap (λ b. b && even (drop (i + 1) m)) (ne-eqb (getD m i 0 % 2) 0 odd)
+
+pub even-at : (m : Monomial) (i : ℕ) → i < length m → getD m i 0 % 2 ≡ 0 → even (drop i m) ≡ even (drop (i + 1) m)
+even-at m i h two = at-drop-more even m i 0 h ∙ ap (λ b. b && even (drop (i + 1) m)) (eq-eqb (getD m i 0 % 2) 0 two)
