@@ -1,2 +1,3 @@
 pub mod Monomials
 pub mod Places
+pub mod Searches

@@ -9,6 +9,8 @@ pub use exponents::degree;
 pub use exponents::product;
 pub use exponents::square_root;
 pub use lookup::Entry;
+pub use lookup::Found;
+pub use lookup::search;
 pub use order::ByDegree;
 pub use order::ByNumber;
 pub use order::TotalOrder;

@@ -1,0 +1,56 @@
+-- A search from the front: what it seeks is where it would be found among the entries ahead. Assumes nothing.
+use mathlib.Core.Path.{_≡_, refl, sym, ap, _∙_}
+use mathlib.Core.Bool.{Bool, true, false, cond}
+use mathlib.Core.List.{List, [], _∷_}
+use Prim.Native.Nat.{ℕ, suc, _+_, _≤_, _<_}
+use native.Mathlib.Numerals.{one-add}
+use native.Mathlib.Omega.{arith}
+use lib.ListN.{length, getD, drop}
+use Rattle.std.specs.declared.cmp.Ordering.{Ordering}
+use Rattle.std.specs.declared.cmp.Ordering.the-variants.{Less}
+use Rattle.std.specs.Orderings.{isLt, isEq}
+use Rattle.std.proofs.shelf.Lists.{at-drop-more, at-drop-all}
+use Rattle.table.specs.Order.{Order}
+use Rattle.table.specs.Table.{place, first-is, has-key}
+
+module _ {E K : Type 0} (o : Order K) (key : E → K) where
+  -- by the first entry
+  pub place-less : (x : E) (xs : List E) (k : K) → o .rank (key x) k ≡ Less → place o key (x ∷ xs) k ≡ suc (place o key xs k)
+  place-less x xs k h = rw (h, one-add) refl
+
+  pub place-here : (x : E) (xs : List E) (k : K) (r : Ordering) → o .rank (key x) k ≡ r → isLt r ≡ false → place o key (x ∷ xs) k ≡ 0
+  place-here x xs k r h n = rw (h, n) refl
+
+  pub has-less : (x : E) (xs : List E) (k : K) → o .rank (key x) k ≡ Less → has-key o key (x ∷ xs) k ≡ has-key o key xs k
+  has-less x xs k h = ap (λ n. first-is o key k (drop n (x ∷ xs))) (place-less x xs k h)
+
+  pub has-here : (x : E) (xs : List E) (k : K) (r : Ordering) → o .rank (key x) k ≡ r → isLt r ≡ false → has-key o key (x ∷ xs) k ≡ isEq r
+  has-here x xs k r h n = ap (λ p. first-is o key k (drop p (x ∷ xs))) (place-here x xs k r h n) ∙ ap isEq h
+
+  -- the search of es has come to i
+  pub record Ahead (es : List E) (k : K) (i : ℕ) : Type 0 where
+    pub place-is : place o key es k ≡ i + place o key (drop i es) k
+    pub has-is : has-key o key es k ≡ has-key o key (drop i es) k
+
+  module _ (es : List E) (k : K) (i : ℕ) (a : Ahead es k i) where
+    pub ahead-all : length es ≤ i → (place o key es k ≡ i) × (has-key o key es k ≡ false)
+    ahead-all h =
+        let p = at-drop-all (λ fs. place o key fs k) es i h in
+        (omega (arith, a .place-is, p), a .has-is ∙ at-drop-all (λ fs. has-key o key fs k) es i h)
+
+    module _ (x : E) (h : i < length es) (is : x ≡ getD es i x) where
+      next : {Y : Type 0} (F : List E → Y) → F (drop i es) ≡ F (x ∷ drop (i + 1) es)
+      next F = at-drop-more F es i x h ∙ ap (λ y. F (y ∷ drop (i + 1) es)) (sym is)
+
+      pub ahead-more : o .rank (key x) k ≡ Less → Ahead es k (i + 1)
+      ahead-more l =
+          let p : place o key (drop i es) k ≡ suc (place o key (drop (i + 1) es) k) = next (λ fs. place o key fs k) ∙ place-less x (drop (i + 1) es) k l in
+          record {
+            place-is = omega (arith, a .place-is, p);
+            has-is = a .has-is ∙ next (λ fs. has-key o key fs k) ∙ has-less x (drop (i + 1) es) k l;
+          }
+
+      pub ahead-here : (r : Ordering) → o .rank (key x) k ≡ r → isLt r ≡ false → (place o key es k ≡ i) × (has-key o key es k ≡ isEq r)
+      ahead-here r q n =
+          let p : place o key (drop i es) k ≡ 0 = next (λ fs. place o key fs k) ∙ place-here x (drop (i + 1) es) k r q n in
+          (omega (arith, a .place-is, p), a .has-is ∙ next (λ fs. has-key o key fs k) ∙ has-here x (drop (i + 1) es) k r q n)
