@@ -1,2 +1,4 @@
 pub mod Enclosure
+pub mod Rounding
 pub mod Reaching
+pub mod Sizes

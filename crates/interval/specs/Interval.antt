@@ -1,6 +1,6 @@
 -- Intervals of marks and their arithmetic, rounded outward. Assumes nothing.
 use mathlib.Core.Bool.{Bool, _&&_}
-use Prim.Native.Nat.{ℕ}
+use Prim.Native.Nat.{ℕ, _-_, _^_}
 use lib.Dec.{eqb}
 use lib.IntN.{ℤ, pos, negℤ, natAbs, _+ℤ_, _-ℤ_, _*ℤ_}
 use lib.Signed.{shrZ, leZ, _≤ℤ_}
@@ -18,6 +18,11 @@ interval a b = record { lower = a; upper = b }
 abbrev pub zero-interval : Interval
 zero-interval = interval (pos 0) (pos 0)
 
+-- the number lies from -n to n
+pub record Bounded (n : ℕ) (z : ℤ) : Type 0 where
+  pub low : negℤ (pos n) ≤ℤ z
+  pub high : z ≤ℤ pos n
+
 -- both ends lie from -n to n, the lower not above the upper
 pub record Sized (n : ℕ) (i : Interval) : Type 0 where
   pub low : negℤ (pos n) ≤ℤ i .lower
@@ -27,6 +32,10 @@ pub record Sized (n : ℕ) (i : Interval) : Type 0 where
 -- both ends lie from -limit to limit
 abbrev pub Fits : Interval → Type 0
 Fits i = Sized limit i
+
+-- small enough that a sum or a difference of two is a 64-bit number
+abbrev pub Summable : Interval → Type 0
+Summable i = Sized (2 ^ 62 - 1) i
 
 -- the test of both ends, for what is an interval
 abbrev pub fits : Interval → Bool

@@ -1,4 +1,5 @@
 // Intervals of marks, hulls of binary64 values, and the kinds of coefficient.
+mod arithmetic; // sums, products and reaches of intervals
 mod kind; // what a kind of coefficient is
 mod kinds; // whole, fixed and interval
 mod marks; // an interval: two ends in marks
@@ -18,6 +19,7 @@ pub use marks::Interval;
 pub use marks::IntervalDebug;
 pub use marks::IntervalEq;
 pub use marks::IntervalPartialEq;
+pub use marks::LIMIT;
 pub use reason::Reason;
 pub use reason::ReasonDebug;
 pub use reason::ReasonDisplay;
