@@ -2,7 +2,7 @@
 -- Assumes nothing.
 use mathlib.Core.Path.{_≡_, refl, sym, subst}
 use mathlib.Core.Bool.{Bool, true, false, not, cond}
-use mathlib.Core.Logic.{_⊎_, inl, inr}
+use mathlib.Core.Logic.{inl, inr}
 use Prim.Native.Nat.{ℕ, zero, suc, _*_, _<_, _≤_}
 use native.Mathlib.Nat.{mul-le-mul-left}
 use native.Mathlib.Omega.{arith}
@@ -14,8 +14,8 @@ use Rattle.std.specs.Numbers.{minZ, maxZ}
 use Rattle.std.proofs.shelf.Signed.{by-ltZ, clamps}
 use Rattle.rational.proofs.Solver.{lit, _⊕_, _⊗_, ⊖_, _⊝_, _≈_, ring1, ring2, ring4}
 use Rattle.rational.proofs.Whole.{ℤ-ring, scale-≤}
-use Rattle.rational.proofs.Rational.{ℚ, _+ℚ_, _-ℚ_, _*ℚ_, negℚ, of, of-+, of-*, of-sub, of-neg, ℚ-ring, NonNeg, nonneg-add, nonneg-nat, nonneg-cancel, sign, _≤ℚ_}
-use Rattle.rational.proofs.Certificate.{_≼_∵_, cert4, signs, square}
+use Rattle.rational.proofs.Rational.{ℚ, _+ℚ_, _-ℚ_, _*ℚ_, negℚ, of, of-+, of-*, of-sub, of-neg, ℚ-ring, NonNeg, nonneg-nat, nonneg-cancel, sign, _≤ℚ_}
+use Rattle.rational.proofs.Certificate.{_≼_∵_, cert4, signs}
 use Rattle.rational.proofs.Order.{≤ℚ-trans, ≤ℚ-mul, of-mono}
 use Rattle.rational.proofs.Powers.{Unital, unital-mul}
 use Rattle.interval.specs.Interval.{interval, floorDiv, ceilDiv, plus, even-reach, full-reach}
@@ -23,7 +23,7 @@ use Rattle.interval.proofs.Enclosure.{_inside_, le-ceil}
 use Rattle.polynomial.specs.Method.{Within}
 use Rattle.polynomial.specs.Quadratic.{vertex-down, vertex-up, joint}
 
-abbrev quad : ℚ → ℚ → ℚ → ℚ
+abbrev pub quad : ℚ → ℚ → ℚ → ℚ
 quad a b u = a *ℚ (u *ℚ u) +ℚ b *ℚ u
 
 abbrev two : ℚ

@@ -1,4 +1,11 @@
 pub mod Reaches
+pub mod Totals
+pub mod Choices
 pub mod PlainLaws
 pub mod MeetLaws
 pub mod Joint
+pub mod Products
+pub mod Standing
+pub mod Pairs
+pub mod Regroup
+pub mod QuadraticLaws

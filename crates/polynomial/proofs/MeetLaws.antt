@@ -3,14 +3,14 @@ use mathlib.Core.Bool.{Bool, true, false, cond}
 use mathlib.Core.List.{List}
 use native.Mathlib.Omega.{arith}
 use lib.IntN.{ℤ}
-use lib.Signed.{_≤ℤ_, ltZ}
+use lib.Signed.{ltZ}
 use Rattle.std.proofs.shelf.Signed.{ints, clamps}
 use Rattle.rational.specs.Fraction.{Fraction, whole, _≤ᶠ_}
 use Rattle.interval.specs.declared.marks.Interval.{Interval}
 use Rattle.interval.specs.Interval.{meet}
 use Rattle.polynomial.specs.declared.term.Term.{Term}
 use Rattle.polynomial.specs.Value.{lower-value, upper-value}
-use Rattle.polynomial.specs.Method.{Within, Holds, Ranges, Lawful}
+use Rattle.polynomial.specs.Method.{Ranges, Lawful}
 
 -- either end of a choice is below or above
 chosen-low : (b : Bool) (x y : ℤ) (v : Fraction) → whole x ≤ᶠ v → whole y ≤ᶠ v → whole (cond b x y) ≤ᶠ v
