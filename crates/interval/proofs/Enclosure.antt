@@ -1,15 +1,15 @@
 -- What lies in an interval, in ℚ: sums, differences, meets, products, and the parts of a split.
 -- Assumes nothing.
-use mathlib.Core.Path.{_≡_, refl, ap, sym, _∙_}
+use mathlib.Core.Path.{_≡_}
 use mathlib.Core.Logic.{_⊎_, inl, inr}
 use Prim.Native.Nat.{ℕ, _<_}
 use native.Mathlib.Omega.{arith}
-use lib.IntN.{ℤ, pos, negsuc, _+ℤ_, _*ℤ_, negℤ}
+use lib.IntN.{ℤ, pos, negsuc, _*ℤ_, negℤ}
 use lib.Signed.{_≤ℤ_}
 use borrow.Author.Differences.{ints}
 use Rattle.std.proofs.shelf.Signed.{clamps, by-ltZ}
 use Rattle.std.specs.Numbers.{minZ, maxZ}
-use Rattle.rational.specs.Fraction.{Fraction, whole, _≤ᶠ_}
+use Rattle.rational.specs.Fraction.{Fraction, whole}
 use Rattle.rational.proofs.Solver.{_⊕_, _⊗_, ⊖_, _⊝_, _≈_, ring2, ring4}
 use Rattle.rational.proofs.Whole.{ℤ-ring}
 use Rattle.rational.proofs.Rational.{ℚ, ⟦_⟧, _+ℚ_, _-ℚ_, _*ℚ_, negℚ, of, of-is, of-+, of-*, of-neg, *ℚ-comm, ℚ-ring, nonneg-add, nonneg-cancel, _≤ℚ_, le-in, le-out}

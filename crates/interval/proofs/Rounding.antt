@@ -58,6 +58,19 @@ ceil-mono x m y n M N h =
     let e = ring3 ℤ-ring (λ c m n. c ⊗ n ⊗ m ≈ c ⊗ m ⊗ n) tt (ceilDiv y n) (pos m) (pos n) in
     omega (arith, ints)))
 
+-- equal fractions
+pub floor-same : (x : ℤ) (m : ℕ) (y : ℤ) (n : ℕ) → 0 < m → 0 < n → x *ℤ pos n ≡ y *ℤ pos m → floorDiv x m ≡ floorDiv y n
+floor-same x m y n M N e =
+    let p = floor-mono x m y n M N (omega (arith, ints)) in
+    let q = floor-mono y n x m N M (omega (arith, ints)) in
+    omega (arith, ints)
+
+pub ceil-same : (x : ℤ) (m : ℕ) (y : ℤ) (n : ℕ) → 0 < m → 0 < n → x *ℤ pos n ≡ y *ℤ pos m → ceilDiv x m ≡ ceilDiv y n
+ceil-same x m y n M N e =
+    let p = ceil-mono x m y n M N (omega (arith, ints)) in
+    let q = ceil-mono y n x m N M (omega (arith, ints)) in
+    omega (arith, ints)
+
 pub floor-le-ceil : (x y : ℤ) (n : ℕ) → 0 < n → x ≤ℤ y → floorDiv x n ≤ℤ ceilDiv y n
 floor-le-ceil x y n above h =
     cancel-≤ n above (let f = floor-le x n above in let c = le-ceil y n above in omega (arith, ints))

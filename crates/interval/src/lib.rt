@@ -1,5 +1,6 @@
 // Intervals of marks, hulls of binary64 values, and the kinds of coefficient.
 mod arithmetic; // sums, products and reaches of intervals
+mod hulls; // the hull of a binary64 value
 mod kind; // what a kind of coefficient is
 mod kinds; // whole, fixed and interval
 mod marks; // an interval: two ends in marks

@@ -1,11 +1,10 @@
-use mathlib.Core.Path.{_≡_, sym, subst}
+use mathlib.Core.Path.{_≡_}
 use native.Mathlib.Omega.{arith}
 use lib.IntN.{ℤ, _*ℤ_}
 use mir.Syntax.{w64}
 use mir.Val.{toZ, ofZ}
 use borrow.Author.Differences.{ints}
 use Rattle.std.proofs.shelf.Signed.{toZ-ofZ}
-use Rattle.interval.specs.Interval.{Bounded}
 use Rattle.interval.proofs.Sizes.{bounded-product}
 use Rattle.interval.proofs.arithmetic.product.Needs as need
 
