@@ -36,6 +36,10 @@ within-of {I} {v} h = record { low = le-out (whole (I .lower)) v (rw of-is at (h
 pub inside-ordered : {I : Interval} {x : ℚ} → x inside I → I .lower ≤ℤ I .upper
 inside-ordered h = of-reflect (≤ℚ-trans (h .low) (h .high))
 
+-- what lies in an interval lies in every wider one
+pub inside-wider : {I K : Interval} {x : ℚ} → x inside I → K .lower ≤ℤ I .lower → I .upper ≤ℤ K .upper → x inside K
+inside-wider h l u = record { low = ≤ℚ-trans (of-mono l) (h .low); high = ≤ℚ-trans (h .high) (of-mono u) }
+
 -- sums, end by end
 pub inside-sum : {I K : Interval} {x y : ℚ} → x inside I → y inside K → x +ℚ y inside plus I K
 inside-sum {I} {K} h k = record { low = rw (of-+ (I .lower) (K .lower)) (≤ℚ-add (h .low) (k .low)); high = rw (of-+ (I .upper) (K .upper)) (≤ℚ-add (h .high) (k .high)) }

@@ -5,3 +5,6 @@ pub mod Sizes
 mod Scaled
 mod Casts
 mod Marked
+pub mod Orders
+pub mod Passing
+pub mod GivenEnds

@@ -5,3 +5,5 @@ pub mod Kind
 pub mod NamedKinds
 pub mod Reason
 pub mod Refusal
+pub mod Variable
+pub mod Comparison

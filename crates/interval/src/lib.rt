@@ -1,5 +1,6 @@
 // Intervals of marks, hulls of binary64 values, and the kinds of coefficient.
 mod arithmetic; // sums, products and reaches of intervals
+mod comparing; // the order of two binary64 values
 mod hulls; // the hull of a binary64 value
 mod kind; // what a kind of coefficient is
 mod kinds; // whole, fixed and interval
@@ -9,6 +10,7 @@ mod refusal; // a reason with a line and a place
 mod scale; // how many marks make a unit
 mod variable; // an input with its ends
 
+pub use comparing::compare;
 pub use kind::Kind;
 pub use kinds::FixedKind;
 pub use kinds::IntervalKind;
