@@ -9,3 +9,5 @@ pub mod Standing
 pub mod Pairs
 pub mod Regroup
 pub mod QuadraticLaws
+pub mod Values
+pub mod Equality

@@ -10,7 +10,8 @@ use Rattle.interval.specs.declared.marks.Interval.{Interval}
 use Rattle.interval.specs.Interval.{meet}
 use Rattle.polynomial.specs.declared.term.Term.{Term}
 use Rattle.polynomial.specs.Value.{lower-value, upper-value}
-use Rattle.polynomial.specs.Method.{Ranges, Lawful}
+use Rattle.polynomial.specs.Method.{Ranges}
+use Rattle.polynomial.specs.Laws.{Meet-lawful}
 
 -- either end of a choice is below or above
 chosen-low : (b : Bool) (x y : ℤ) (v : Fraction) → whole x ≤ᶠ v → whole y ≤ᶠ v → whole (cond b x y) ≤ᶠ v
@@ -33,5 +34,5 @@ meet-ranges ts i j f g =
       };
     }
 
-pub meet-lawful : (range other : List Term → Interval) → Lawful range → Lawful other → Lawful (λ ts. meet (range ts) (other ts))
+pub meet-lawful : Meet-lawful
 meet-lawful range other f g ts p = meet-ranges ts (range ts) (other ts) (f ts p) (g ts p)

@@ -12,7 +12,8 @@ use Rattle.interval.proofs.Enclosure.{_inside_, inside-sum}
 use Rattle.polynomial.specs.declared.term.Term.{Term}
 use Rattle.polynomial.specs.Reach.{reach}
 use Rattle.polynomial.specs.Value.{Units}
-use Rattle.polynomial.specs.Method.{Fit-term, plain, Lawful}
+use Rattle.polynomial.specs.Method.{Fit-term, plain}
+use Rattle.polynomial.specs.Laws.{Plain-lawful}
 use Rattle.polynomial.proofs.Reaches.{reach-holds}
 use Rattle.polynomial.proofs.Totals.{total}
 use Rattle.polynomial.proofs.Choices.{Choice, chosen, holds-by}
@@ -26,7 +27,7 @@ module _ (us : List Fraction) (U : Units us) (choose : Term → ℤ) (choice : C
   plain-inside [] f = record { low = ≤ℚ-refl (of (pos 0)); high = ≤ℚ-refl (of (pos 0)) }
   plain-inside (t ∷ ts) f = inside-sum (reach-chosen t (f .0)) (plain-inside ts (f .1))
 
-pub plain-lawful : Lawful plain
+pub plain-lawful : Plain-lawful
 plain-lawful ts p = record {
   within = record { low = omega (arith, ints); high = omega (arith, ints) };
   holds = λ us U. holds-by us ts (plain ts) (λ choose choice. plain-inside us U choose choice ts (p .fit));

@@ -23,7 +23,8 @@ use Rattle.polynomial.specs.declared.term.Term.{Term}
 use Rattle.polynomial.specs.Reach.{reach}
 use Rattle.polynomial.specs.Value.{Units}
 use Rattle.polynomial.specs.Method.{Fit-term, Polynomial, plain, Within}
-use Rattle.polynomial.specs.Quadratic.{joint, point, part, parts, quadratic, Quadratic-lawful}
+use Rattle.polynomial.specs.Laws.{Quadratic-lawful}
+use Rattle.polynomial.specs.Quadratic.{joint, point, part, parts, quadratic}
 use Rattle.polynomial.proofs.Reaches.{value, value-unital}
 use Rattle.polynomial.proofs.Totals.{total}
 use Rattle.polynomial.proofs.Choices.{Choice, chosen, holds-by}

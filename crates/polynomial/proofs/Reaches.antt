@@ -34,7 +34,7 @@ pub value-cons : (u : Fraction) (us : List Fraction) (e : ℕ) (m : Monomial) �
 value-cons u us e m = rw pow-is (sym (mul-is (powᶠ u e) (monomial-value us m)))
 
 -- a coordinate from -1 to 1
-unit : {u : Fraction} → u within interval (negsuc 0) (pos 1) → Unital ⟦ u ⟧
+pub unit : {u : Fraction} → u within interval (negsuc 0) (pos 1) → Unital ⟦ u ⟧
 unit h = let i = inside-of h in record { low = i .low; high = i .high }
 
 one-unital : Unital (of (pos 1))

@@ -2,3 +2,4 @@ pub mod Reach
 pub mod Value
 pub mod Method
 pub mod Quadratic
+pub mod Laws

@@ -11,7 +11,6 @@ use Rattle.interval.specs.Interval.{interval, zero-interval, is-zero, floorDiv,
 use Rattle.polynomial.specs.declared.term.Term.{Term}
 use Rattle.table.specs.Monomial.{Monomial, degree, multiplied, even, root}
 use Rattle.polynomial.specs.Reach.{reach, coefficient-at}
-use Rattle.polynomial.specs.Method.{Lawful}
 
 -- the vertex -b²/(4a) of a·u² + b·u, rounded down and rounded up
 abbrev pub vertex-down : ℤ → ℤ → ℤ
@@ -54,7 +53,3 @@ parts ts (u ∷ us) = plus (part ts u) (parts ts us)
 
 unfoldable pub quadratic : List Term → Interval
 quadratic ts = parts ts ts
-
--- the quadratic range keeps the laws of a method
-abbrev pub Quadratic-lawful : Type 0
-Quadratic-lawful = Lawful quadratic

@@ -6,12 +6,16 @@ use Rattle.std.specs.shelf.Lists.{folded, kept-by}
 use Rattle.interval.specs.declared.marks.Interval.{Interval}
 use Rattle.interval.specs.Interval.{zero-interval, is-zero, even-reach, full-reach, plus}
 use Rattle.polynomial.specs.declared.term.Term.{Term}
-use Rattle.table.specs.Monomial.{Monomial, degree, even}
+use Rattle.table.specs.Monomial.{Monomial, constant-monomial, degree, even}
 use Rattle.table.specs.Order.{by-degree}
 use Rattle.table.specs.Table.{entry, entered}
 
 abbrev pub term : Monomial → Interval → Term
 term m c = record { monomial = m; coefficient = c }
+
+-- what fills the unused places of a table
+abbrev pub zero-term : Term
+zero-term = term constant-monomial zero-interval
 
 -- the reach of an interval under a monomial
 abbrev pub reach : Monomial → Interval → Interval

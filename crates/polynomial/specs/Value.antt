@@ -32,3 +32,16 @@ upper-value us (t ∷ ts) = maxᶠ (lower-times us t) (upper-times us t) +ᶠ up
 abbrev pub Units : List Fraction → Type 0
 Units [] = Unit {0}
 Units (u ∷ us) = (u within interval (negsuc 0) (pos 1)) × Units us
+
+-- one number in each coefficient
+abbrev pub Inside : List Fraction → List Term → Type 0
+Inside [] [] = Unit {0}
+Inside [] (t ∷ ts) = ⊥
+Inside (c ∷ cs) [] = ⊥
+Inside (c ∷ cs) (t ∷ ts) = (c within t .coefficient) × Inside cs ts
+
+-- the value of the polynomial with these numbers for its coefficients
+abbrev pub value-with : List Fraction → List Fraction → List Term → Fraction
+value-with us [] ts = whole (pos 0)
+value-with us (c ∷ cs) [] = whole (pos 0)
+value-with us (c ∷ cs) (t ∷ ts) = c *ᶠ monomial-value us (t .monomial) +ᶠ value-with us cs ts
