@@ -1,3 +1,5 @@
 pub mod Monomial
 pub mod Order
 pub mod Table
+pub mod Slice
+pub mod View

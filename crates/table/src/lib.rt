@@ -1,8 +1,12 @@
 // Ascending tables: keys with a total order, one search, one entry a key.
+mod entries; // the one table over a lent slice
 mod exponents; // monomials by value
 mod lookup; // entries under keys, and the one search
+mod moves; // moves within a slice
 mod order; // keys with a total order
 
+pub use entries::Full;
+pub use entries::Table;
 pub use exponents::Monomial;
 pub use exponents::all_even;
 pub use exponents::degree;

@@ -1,0 +1,32 @@
+-- What a shift by one place leaves, as a list. Assumes nothing.
+use mathlib.Core.Path.{_≡_, refl, sym, ap, _∙_}
+use mathlib.Core.List.{List, [], _∷_, _++_}
+use mathlib.Core.Logic.{_⊎_, inl, inr, ⊎-elim, _≢_}
+use Prim.Native.Nat.{ℕ, _+_, _-_, _≤_, _<_}
+use native.Mathlib.Omega.{arith}
+use borrow.Author.Needs.{needs}
+use lib.ListN.{length, take, drop, getD, set, replicate}
+use Rattle.std.proofs.shelf.Edits.{length-inserted, getD-inserted-below, getD-inserted-at, getD-inserted-above, length-removed, getD-removed-below, getD-removed-above}
+use Rattle.std.proofs.shelf.Lists.{places, same-lists, length-replicate, getD-replicate, getD-set-same, getD-set-other, length-take-le, length-set, length-append, length-drop, getD-append-left, getD-append-right, getD-drop, getD-take}
+use Rattle.std.proofs.shelf.Tests.{cases-lt, cases-eq}
+use Rattle.std.specs.shelf.Lists.{inserted}
+use Rattle.table.specs.Slice.{over, packed}
+
+module _ {X : Type 0} where
+  pub shifted-up : (xs ys : List X) (count at : ℕ) (e : X) → at ≤ count → count < length xs → length ys ≡ length xs
+      → ((k : ℕ) (d : X) → k ≤ at → getD ys k d ≡ getD xs k d)
+      → ((k : ℕ) (d : X) → at < k → k ≤ count → getD ys k d ≡ getD xs (k - 1) d)
+      → ((k : ℕ) (d : X) → count < k → getD ys k d ≡ getD xs k d)
+      → set ys at e ≡ inserted (take count xs) at e ++ drop (count + 1) xs
+  shifted-up xs ys count at e in′ room long low mid high =
+      same-lists _ _ (search (needs, places))
+      (λ k d h. grind (arith, places, getD-set-same, cases-eq k at, low k d, mid k d, high k d))
+
+  -- ts at the front and blanks up to i, then one more
+  pub blank-none : (xs : List X) (i : ℕ) (b : X) → i ≤ length xs → xs ≡ over (packed i b (take i xs)) xs
+  blank-none xs i b h = same-lists _ _ (search (needs, places, length-replicate)) (λ k d l. grind (arith, places, getD-replicate, length-replicate))
+
+  pub blank-more : (xs ts : List X) (i : ℕ) (b : X) → length ts ≤ i → i < length xs → set (over (packed i b ts) xs) i b ≡ over (packed (i + 1) b ts) xs
+  blank-more xs ts i b low h =
+      same-lists _ _ (search (needs, places, length-replicate))
+      (λ k d l. grind (arith, places, getD-replicate, length-replicate, getD-set-same, cases-eq k i))
