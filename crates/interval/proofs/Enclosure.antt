@@ -1,7 +1,7 @@
 -- What lies in an interval, in ℚ: sums, differences, meets, products, and the parts of a split.
 -- Assumes nothing.
 use mathlib.Core.Path.{_≡_}
-use mathlib.Core.Logic.{_⊎_, inl, inr}
+use mathlib.Core.Logic.{inl, inr}
 use Prim.Native.Nat.{ℕ, _<_}
 use native.Mathlib.Omega.{arith}
 use lib.IntN.{ℤ, pos, negsuc, _*ℤ_, negℤ}
@@ -128,28 +128,29 @@ inside-product S above {I} {K} A B e =
     }
 
 -- ---- a value of a sum of intervals is a sum of values of each
-pub split : (C L : Interval) (v : ℚ) → C .lower ≤ℤ C .upper → L .lower ≤ℤ L .upper → v inside plus C L
-    → (x : ℚ) × (y : ℚ) × (x inside C) × (y inside L) × (v ≡ x +ℚ y)
-split C L v c l V = go (≤ℚ-total (of (C .upper)) (v -ℚ of (L .lower)))
-  where
-    low : of (C .lower) +ℚ of (L .lower) ≤ℚ v
-    low = rw of-+ at (V .low)
-
-    high : v ≤ℚ of (C .upper) +ℚ of (L .upper)
-    high = rw of-+ at (V .high)
-
-    go : (of (C .upper) ≤ℚ v -ℚ of (L .lower)) ⊎ (v -ℚ of (L .lower) ≤ℚ of (C .upper)) → (x : ℚ) × (y : ℚ) × (x inside C) × (y inside L) × (v ≡ x +ℚ y)
-    go (inl p) = (
-      of (C .upper),
-      v -ℚ of (C .upper),
+-- the upper end of C and the rest, where that is not below L
+pub upper-rest : (C L : Interval) (v : ℚ) → C .lower ≤ℤ C .upper → v inside plus C L → of (C .upper) ≤ℚ v -ℚ of (L .lower)
+    → (of (C .upper) inside C) × (v -ℚ of (C .upper) inside L) × (v ≡ of (C .upper) +ℚ (v -ℚ of (C .upper)))
+upper-rest C L v c V p =
+    let high : v ≤ℚ of (C .upper) +ℚ of (L .upper) = rw of-+ at (V .high) in (
       record { low = of-mono c; high = ≤ℚ-refl (of (C .upper)) },
       record { low = cert3 (λ v c l. l ≼ v ⊝ c ∵ (v ⊝ l) ⊝ c) tt v (of (C .upper)) (of (L .lower)) (p .diff); high = cert3 (λ v c l. v ⊝ c ≼ l ∵ (c ⊕ l) ⊝ v) tt v (of (C .upper)) (of (L .upper)) (high .diff) },
       ring2 ℚ-ring (λ v c. v ≈ c ⊕ (v ⊝ c)) tt v (of (C .upper)),
     )
-    go (inr p) = (
-      v -ℚ of (L .lower),
-      of (L .lower),
+
+-- else the lower end of L and the rest
+pub lower-rest : (C L : Interval) (v : ℚ) → L .lower ≤ℤ L .upper → v inside plus C L → v -ℚ of (L .lower) ≤ℚ of (C .upper)
+    → (v -ℚ of (L .lower) inside C) × (of (L .lower) inside L) × (v ≡ (v -ℚ of (L .lower)) +ℚ of (L .lower))
+lower-rest C L v l V p =
+    let low : of (C .lower) +ℚ of (L .lower) ≤ℚ v = rw of-+ at (V .low) in (
       record { low = cert3 (λ v c l. c ≼ v ⊝ l ∵ v ⊝ (c ⊕ l)) tt v (of (C .lower)) (of (L .lower)) (low .diff); high = p },
       record { low = ≤ℚ-refl (of (L .lower)); high = of-mono l },
       ring2 ℚ-ring (λ v l. v ≈ (v ⊝ l) ⊕ l) tt v (of (L .lower)),
     )
+
+pub split : (C L : Interval) (v : ℚ) → C .lower ≤ℤ C .upper → L .lower ≤ℤ L .upper → v inside plus C L
+    → (x : ℚ) × (y : ℚ) × (x inside C) × (y inside L) × (v ≡ x +ℚ y)
+split C L v c l V = elim (≤ℚ-total (of (C .upper)) (v -ℚ of (L .lower))) [
+  | inl p ↦ let s = upper-rest C L v c V p in (of (C .upper), v -ℚ of (C .upper), s .0, s .1, s .2)
+  | inr p ↦ let s = lower-rest C L v l V p in (v -ℚ of (L .lower), of (L .lower), s .0, s .1, s .2)
+]

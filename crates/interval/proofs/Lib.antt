@@ -8,3 +8,4 @@ mod Marked
 pub mod Orders
 pub mod Passing
 pub mod GivenEnds
+pub mod Encloses

@@ -26,9 +26,13 @@ value (fin s m e) = record { num = signed s (m * up e); den = down e; above = do
 abbrev pub rounded : Fraction → Interval
 rounded a = interval (floorDiv (a .num) (a .den)) (ceilDiv (a .num) (a .den))
 
--- the value times the scale, rounded down and up
+-- the exact value in marks
+abbrev pub in-marks : ℕ → Float → Fraction
+in-marks S x = value x *ᶠ whole (pos S)
+
+-- the value in marks, rounded down and up
 unfoldable pub hull : ℕ → Float → Interval
-hull S x = rounded (value x *ᶠ whole (pos S))
+hull S x = rounded (in-marks S x)
 
 -- the hull of a finite value, where it fits
 abbrev pub hulled : ℕ → Float → Option Interval

@@ -7,3 +7,4 @@ pub mod Reason
 pub mod Refusal
 pub mod Variable
 pub mod Comparison
+pub mod Enclosure

@@ -7,13 +7,12 @@ use lib.Ieee.{Float, lt}
 use Rattle.std.specs.Floats.{finite}
 use Rattle.std.specs.declared.result.Result.{Result}
 use Rattle.std.specs.declared.result.Result.the-variants.{Ok}
-use Rattle.rational.specs.Fraction.{whole, _*ᶠ_}
 use Rattle.interval.specs.declared.marks.Interval.{Interval}
 use Rattle.interval.specs.declared.reason.Reason.{Reason}
 use Rattle.interval.specs.declared.reason.Reason.the-variants.{EndNotFinite, EndsCrossed, EndDoesNotFit}
 use Rattle.interval.specs.declared.variable.Variable.{Variable}
 use Rattle.interval.specs.Interval.{interval, limit, Bounded, fits, floorDiv, _within_}
-use Rattle.interval.specs.Hull.{value, hull}
+use Rattle.interval.specs.Hull.{in-marks, hull}
 use Rattle.interval.specs.Reason.{require}
 
 -- both ends are finite
@@ -52,5 +51,5 @@ pub record Sound (S : ℕ) (v : Variable) : Type 0 where
   pub wide : pos 0 ≤ℤ v .half
   pub centre : Bounded limit (v .centre)
   pub half : Bounded limit (v .half)
-  pub lower : (value (v .lower) *ᶠ whole (pos S)) within span v
-  pub upper : (value (v .upper) *ᶠ whole (pos S)) within span v
+  pub lower : in-marks S (v .lower) within span v
+  pub upper : in-marks S (v .upper) within span v

@@ -4,6 +4,7 @@ mod comparing; // the order of two binary64 values
 mod hulls; // the hull of a binary64 value
 mod kind; // what a kind of coefficient is
 mod kinds; // whole, fixed and interval
+mod laws; // what intervals promise
 mod marks; // an interval: two ends in marks
 mod reason; // why something is refused
 mod refusal; // a reason with a line and a place
@@ -18,6 +19,10 @@ pub use kinds::KindFixed;
 pub use kinds::KindInterval;
 pub use kinds::KindWhole;
 pub use kinds::WholeKind;
+pub use laws::arithmetic_encloses;
+pub use laws::hulls_hold;
+pub use laws::reaches_enclose;
+pub use laws::splits_select;
 pub use marks::Interval;
 pub use marks::IntervalDebug;
 pub use marks::IntervalEq;
