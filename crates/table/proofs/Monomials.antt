@@ -1,13 +1,14 @@
 -- Monomials place by place: products add exponents and degrees. Assumes nothing.
-use mathlib.Core.Path.{_≡_, refl, sym, ap, _∙_}
-use mathlib.Core.Bool.{false, _&&_}
-use mathlib.Core.List.{List, [], _∷_}
+use mathlib.Core.Path.{_≡_, refl, sym, ap, ap₂, _∙_}
+use mathlib.Core.Bool.{true, false, _&&_}
+use mathlib.Core.List.{[], _∷_}
 use Prim.Native.Nat.{ℕ, zero, suc, _+_, _/_, _%_, _<_}
 use native.Mathlib.Omega.{arith}
-use borrow.Author.Tests.{eq-eqb, ne-eqb}
+use lib.Dec.{eqb}
 use lib.ListN.{length, getD, drop}
 use Rattle.std.proofs.shelf.Lists.{ext-getD, length-map, getD-map, at-drop-more}
 use Rattle.std.proofs.shelf.Sums.{sumBy-cons}
+use Rattle.std.proofs.shelf.Tests.{eqb-true, eq-eqb, ne-eqb, and-parts, and-from}
 use Rattle.table.specs.Monomial.{Monomial, degree, even, multiplied, root}
 
 pub length-multiplied : (m n : Monomial) → length m ≡ length n → length (multiplied m n) ≡ length m
@@ -22,19 +23,37 @@ getD-multiplied (a ∷ m) (b ∷ n) zero e h = refl
 getD-multiplied (a ∷ m) (b ∷ n) (suc k) e h = getD-multiplied m n k (omega arith) (omega arith)
 
 -- degrees add
-pub degree-multiplied : (m n : Monomial) → length m ≡ length n → degree (multiplied m n) ≡ degree m + degree n
-degree-multiplied [] [] e = refl
-degree-multiplied [] (b ∷ n) e = absurd (omega arith)
-degree-multiplied (a ∷ m) [] e = absurd (omega arith)
-degree-multiplied (a ∷ m) (b ∷ n) e =
+pub degree-product : (m n : Monomial) → length m ≡ length n → degree (multiplied m n) ≡ degree m + degree n
+degree-product [] [] e = refl
+degree-product [] (b ∷ n) e = absurd (omega arith)
+degree-product (a ∷ m) [] e = absurd (omega arith)
+degree-product (a ∷ m) (b ∷ n) e =
     let id : ℕ → ℕ = λ x. x in
     omega (
       arith,
       sumBy-cons id a m,
       sumBy-cons id b n,
       sumBy-cons id (a + b) (multiplied m n),
-      degree-multiplied m n (omega arith),
+      degree-product m n (omega arith),
     )
+
+-- ---- squares and roots
+pub even-square : (m : Monomial) → even (multiplied m m) ≡ true
+even-square [] = refl
+even-square (e ∷ m) = and-from (eqb ((e + e) % 2) 0) (even (multiplied m m)) (eq-eqb ((e + e) % 2) 0 (omega arith)) (even-square m)
+
+pub root-square : (m : Monomial) → root (multiplied m m) ≡ m
+root-square [] = refl
+root-square (e ∷ m) = ap₂ (λ (x : ℕ) (y : Monomial). x ∷ y) (omega arith) (root-square m)
+
+pub square-root : (m : Monomial) → even m ≡ true → multiplied (root m) (root m) ≡ m
+square-root [] t = refl
+square-root (e ∷ m) t =
+    let h = and-parts (eqb (e % 2) 0) (even m) t in
+    let two = eqb-true (e % 2) 0 (h .0) in
+    ap₂ (λ (x : ℕ) (y : Monomial). x ∷ y) (omega arith) (square-root m (h .1))
+
+-- ---- place by place
 
 -- what is the sum at every place is the product
 pub is-multiplied : (m n s : Monomial) → length s ≡ length m → length m ≡ length n → ((k : ℕ) → k < length m → getD s k 0 ≡ getD m k 0 + getD n k 0) → s ≡ multiplied m n

@@ -1,13 +1,13 @@
 -- An entry enters a table at the place that one search finds. Assumes nothing.
 use mathlib.Core.Path.{_≡_, refl, sym, ap, _∙_}
 use mathlib.Core.Bool.{Bool, true, false, cond}
-use mathlib.Core.List.{List, [], _∷_, _++_}
+use mathlib.Core.List.{List, [], _∷_}
 use Prim.Native.Nat.{ℕ, suc, _+_}
 use native.Mathlib.Omega.{arith}
 use lib.ListN.{drop, getD, set}
 use Rattle.std.specs.declared.cmp.Ordering.{Ordering}
 use Rattle.std.specs.declared.cmp.Ordering.the-variants.{Less, Equal, Greater}
-use Rattle.std.specs.Orderings.{isLt, isEq}
+use Rattle.std.specs.Orderings.{isLt}
 use Rattle.std.specs.shelf.Lists.{inserted}
 use Rattle.table.specs.Order.{Order}
 use Rattle.table.specs.Table.{by-rank, place, first-is, has-key, entered}

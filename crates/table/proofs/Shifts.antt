@@ -1,14 +1,12 @@
 -- What a shift by one place leaves, as a list. Assumes nothing.
-use mathlib.Core.Path.{_≡_, refl, sym, ap, _∙_}
-use mathlib.Core.List.{List, [], _∷_, _++_}
-use mathlib.Core.Logic.{_⊎_, inl, inr, ⊎-elim, _≢_}
+use mathlib.Core.Path.{_≡_}
+use mathlib.Core.List.{List, [], _++_}
 use Prim.Native.Nat.{ℕ, _+_, _-_, _≤_, _<_}
 use native.Mathlib.Omega.{arith}
 use borrow.Author.Needs.{needs}
-use lib.ListN.{length, take, drop, getD, set, replicate}
-use Rattle.std.proofs.shelf.Edits.{length-inserted, getD-inserted-below, getD-inserted-at, getD-inserted-above, length-removed, getD-removed-below, getD-removed-above}
-use Rattle.std.proofs.shelf.Lists.{places, same-lists, length-replicate, getD-replicate, getD-set-same, getD-set-other, length-take-le, length-set, length-append, length-drop, getD-append-left, getD-append-right, getD-drop, getD-take}
-use Rattle.std.proofs.shelf.Tests.{cases-lt, cases-eq}
+use lib.ListN.{length, take, drop, getD, set}
+use Rattle.std.proofs.shelf.Lists.{places, same-lists, length-replicate, getD-replicate, getD-set-same}
+use Rattle.std.proofs.shelf.Tests.{cases-eq}
 use Rattle.std.specs.shelf.Lists.{inserted}
 use Rattle.table.specs.Slice.{over, packed}
 

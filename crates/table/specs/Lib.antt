@@ -3,3 +3,4 @@ pub mod Order
 pub mod Table
 pub mod Slice
 pub mod View
+pub mod Laws

@@ -1,6 +1,5 @@
 use Prim.Native.Nat.{ℕ}
 use native.Mathlib.Omega.{arith}
-use borrow.Author.Needs.{needs}
 use Rattle.std.proofs.shelf.Sums.{getD-le-sumBy}
 use Rattle.table.proofs.Monomials.{is-multiplied}
 use Rattle.table.proofs.exponents.product.Needs as need

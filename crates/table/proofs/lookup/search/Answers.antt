@@ -1,7 +1,7 @@
-use mathlib.Core.Path.{_≡_, refl, sym}
+use mathlib.Core.Path.{refl, sym}
 use mathlib.Core.Bool.{true≢false}
 use native.Mathlib.Omega.{arith}
-use Rattle.std.specs.declared.cmp.Ordering.the-variants.{Less, Equal, Greater}
+use Rattle.std.specs.declared.cmp.Ordering.the-variants.{Equal, Greater}
 use Rattle.table.proofs.Searches.{ahead-more, ahead-here, ahead-all}
 use Rattle.table.proofs.lookup.search.Needs as need
 

@@ -1,4 +1,4 @@
-use mathlib.Core.Path.{_≡_, refl, sym, ap, _∙_}
+use mathlib.Core.Path.{refl, _∙_}
 use native.Mathlib.Omega.{arith}
 use Rattle.table.proofs.Enters.{all-in-use, joins-there, comes-between}
 use Rattle.table.proofs.entries.Table.enter.Needs as need

@@ -1,4 +1,3 @@
-use mathlib.Core.Path.{_≡_}
 use Rattle.std.specs.Keys.{unsigned}
 use Rattle.std.specs.Lexical.{lex-says}
 use Rattle.table.proofs.order.ByDegree.compare.Needs as need
