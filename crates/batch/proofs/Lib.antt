@@ -1,2 +1,3 @@
 mod Cuts
 mod Wording
+mod Spelling

@@ -1,2 +1,4 @@
 pub mod Kinds
 pub mod Words
+pub mod Methods
+pub mod Faults
