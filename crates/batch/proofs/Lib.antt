@@ -1,3 +1,6 @@
 mod Cuts
 mod Wording
 mod Spelling
+mod Exits
+mod Numerals
+mod Shapes
