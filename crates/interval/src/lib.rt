@@ -44,3 +44,6 @@ pub use scale::ScaleEq;
 pub use scale::ScalePartialEq;
 pub use variable::Variable;
 pub use variable::VariableDebug;
+
+#[cfg(test)]
+mod tests; // figures, row by row
