@@ -2,6 +2,7 @@ pub mod Enclosure
 pub mod Rounding
 pub mod Reaching
 pub mod Sizes
+mod Passed
 mod Scaled
 mod Casts
 mod Marked

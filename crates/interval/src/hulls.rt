@@ -23,10 +23,9 @@ impl Interval {
         if x.abs() <= 2147483647.0 {
             // exact: a power of two times a value that is far from overflow
             let marks = x * scale.marks() as f64;
-            fitted(Interval {
-                lower: saturating_f64_to_i64(marks.floor()),
-                upper: saturating_f64_to_i64(marks.ceil()),
-            })
+            let lower = saturating_f64_to_i64(marks.floor());
+            let upper = saturating_f64_to_i64(marks.ceil());
+            fitted(Interval { lower, upper })
         } else {
             None
         }

@@ -6,8 +6,8 @@ use Rattle.interval.proofs.marks.Interval.hull.Needs as need
 
 pub returns-then-abs : need.returns-then-abs
 returns-then-abs c =
-    let lo = c .saturating-f64-to-i64 in
-    let hi = c .saturating-f64-to-i64-then-abs in
+    let lo = c .saturating-f64-to-i64-lower in
+    let hi = c .saturating-f64-to-i64-upper in
     record {
       value = c .fitted .ensures .value
           ∙ computed (c .args .x) (c .abs .result) (c .args .scale .bits) (c .marks .result) (lo .result) (hi .result) (c .args .scale .small) (c .marks .ensures .value) (c .abs .ensures .value) (c .abs .ok) (c .if-abs .taken)

@@ -1,51 +1,49 @@
--- The four products of ends are below 2 ^ 62, so their least and greatest are.
-use mathlib.Core.Path.{_≡_}
-use Prim.Native.Nat.{_^_}
-use native.Mathlib.Omega.{arith}
-use lib.IntN.{ℤ}
-use mir.Syntax.{w64}
-use mir.Val.{toZ, ofZ}
-use borrow.Author.Differences.{ints}
+-- The ends fit, so that the four products, their least and their greatest are small.
+use mathlib.Core.Path.{ap₂, _∙_}
 use Rattle.std.specs.Numbers.{minZ, maxZ}
-use Rattle.std.proofs.shelf.Signed.{clamps, toZ-ofZ}
-use Rattle.interval.specs.Interval.{Bounded, times}
+use Rattle.interval.specs.Interval.{interval, floorDiv, ceilDiv, times}
+use Rattle.interval.specs.Scale.{per-unit}
+use Rattle.interval.proofs.Sizes.{lower-bounded, upper-bounded}
+use Rattle.interval.proofs.Passed.{same, passed-small, end, product-is, least-is, greatest-is}
 use Rattle.interval.proofs.marks.Interval.times.Needs as need
 
-abbrev Small : ℤ → Type 0
-Small z = Bounded (2 ^ 62) z
-
--- as a number is passed
-abbrev passed : ℤ → ℤ
-passed z = toZ w64 (ofZ w64 z)
-
-passed-small : {z : ℤ} → Small z → Small (passed z)
-passed-small h = record { low = omega (arith, ints); high = omega (arith, ints) }
-
-min-small : {x y z : ℤ} → z ≡ minZ (passed x) (passed y) → Small x → Small y → Small z
-min-small e h k = record { low = omega (arith, ints, clamps); high = omega (arith, ints, clamps) }
-
-max-small : {x y z : ℤ} → z ≡ maxZ (passed x) (passed y) → Small x → Small y → Small z
-max-small e h k = record { low = omega (arith, ints, clamps); high = omega (arith, ints, clamps) }
-
 pub product-lu-requires : need.product-lu-requires
-product-lu-requires c κs = (record { low = omega (arith, ints); high = omega (arith, ints) }, record { low = omega (arith, ints); high = omega (arith, ints) })
+product-lu-requires c κs = (end (lower-bounded (c .pre .0)), end (upper-bounded (c .pre .1)))
 
 pub product-ul-requires : need.product-ul-requires
-product-ul-requires c κs = (record { low = omega (arith, ints); high = omega (arith, ints) }, record { low = omega (arith, ints); high = omega (arith, ints) })
+product-ul-requires c κs = (end (upper-bounded (c .pre .0)), end (lower-bounded (c .pre .1)))
 
 pub product-uu-requires : need.product-uu-requires
-product-uu-requires c κs = (record { low = omega (arith, ints); high = omega (arith, ints) }, record { low = omega (arith, ints); high = omega (arith, ints) })
+product-uu-requires c κs = (end (upper-bounded (c .pre .0)), end (upper-bounded (c .pre .1)))
 
 pub rounded-out-requires : need.rounded-out-requires
 rounded-out-requires c κs =
-    let ll = c .product-ll .ensures .bound in
-    let lu = c .product-lu .ensures .bound in
-    let ul = c .product-ul .ensures .bound in
-    let uu = c .product-uu .ensures .bound in (
-      passed-small (min-small (c .min-least .ensures .value) (min-small (c .min .ensures .value) ll lu) (min-small (c .min-2 .ensures .value) ul uu)),
-      passed-small (max-small (c .max-greatest .ensures .value) (max-small (c .max .ensures .value) ll lu) (max-small (c .max-2 .ensures .value) ul uu)),
+    let p = c .product-ll .ensures .bound in
+    let q = c .product-lu .ensures .bound in
+    let r = c .product-ul .ensures .bound in
+    let s = c .product-uu .ensures .bound in (
+      passed-small (least-is p q r s (c .min .ensures .value) (c .min-2 .ensures .value) (c .min-least .ensures .value) .1),
+      passed-small (greatest-is p q r s (c .max .ensures .value) (c .max-2 .ensures .value) (c .max-greatest .ensures .value) .1),
     )
 
 pub returns : need.returns
 unfolding times
-returns c = record { value = grind (arith, toZ-ofZ) }
+returns c =
+    let i = c .pre .0 in
+    let j = c .pre .1 in
+    let ll = product-is (lower-bounded i) (lower-bounded j) (c .product-ll .ensures .value) in
+    let lu = product-is (lower-bounded i) (upper-bounded j) (c .product-lu .ensures .value) in
+    let ul = product-is (upper-bounded i) (lower-bounded j) (c .product-ul .ensures .value) in
+    let uu = product-is (upper-bounded i) (upper-bounded j) (c .product-uu .ensures .value) in
+    let p = c .product-ll .ensures .bound in
+    let q = c .product-lu .ensures .bound in
+    let r = c .product-ul .ensures .bound in
+    let s = c .product-uu .ensures .bound in
+    let l = least-is p q r s (c .min .ensures .value) (c .min-2 .ensures .value) (c .min-least .ensures .value) in
+    let g = greatest-is p q r s (c .max .ensures .value) (c .max-2 .ensures .value) (c .max-greatest .ensures .value) in
+    let S = per-unit (c .args .scale) in
+    record {
+      value = c .rounded-out .ensures .value ∙ ap₂ (λ x y. interval (floorDiv x S) (ceilDiv y S))
+          (same (l .1) ∙ l .0 ∙ ap₂ minZ (ap₂ minZ ll lu) (ap₂ minZ ul uu))
+          (same (g .1) ∙ g .0 ∙ ap₂ maxZ (ap₂ maxZ ll lu) (ap₂ maxZ ul uu));
+    }
