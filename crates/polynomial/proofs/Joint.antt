@@ -8,20 +8,21 @@ use native.Mathlib.Nat.{mul-le-mul-left}
 use native.Mathlib.Omega.{arith}
 use lib.Dec.{T, leb, nleb→lt, leb→le}
 use lib.IntN.{ℤ, pos, negsuc, _+ℤ_, _-ℤ_, _*ℤ_, negℤ, natAbs, pos-ne-negsuc, zero-*ℤ}
-use lib.Signed.{_≤ℤ_, _<ℤ_}
+use lib.Signed.{_≤ℤ_}
 use borrow.Author.Differences.{ints}
 use Rattle.std.specs.Numbers.{minZ, maxZ}
 use Rattle.std.proofs.shelf.Signed.{by-ltZ, clamps}
 use Rattle.rational.proofs.Solver.{lit, _⊕_, _⊗_, ⊖_, _⊝_, _≈_, ring1, ring2, ring4}
-use Rattle.rational.proofs.Whole.{ℤ-ring, scale-≤}
+use Rattle.rational.proofs.Whole.{ℤ-ring}
 use Rattle.rational.proofs.Rational.{ℚ, _+ℚ_, _-ℚ_, _*ℚ_, negℚ, of, of-+, of-*, of-sub, of-neg, ℚ-ring, NonNeg, nonneg-nat, nonneg-cancel, sign, _≤ℚ_}
 use Rattle.rational.proofs.Certificate.{_≼_∵_, cert4, signs}
 use Rattle.rational.proofs.Order.{≤ℚ-trans, ≤ℚ-mul, of-mono}
 use Rattle.rational.proofs.Powers.{Unital, unital-mul}
 use Rattle.interval.specs.Interval.{interval, floorDiv, ceilDiv, plus, even-reach, full-reach}
+use Rattle.interval.proofs.Rounding.{floor-greatest}
 use Rattle.interval.proofs.Enclosure.{_inside_, le-ceil}
 use Rattle.polynomial.specs.Method.{Within}
-use Rattle.polynomial.specs.Quadratic.{vertex-down, vertex-up, joint}
+use Rattle.polynomial.specs.Quadratic.{vertex-down, vertex-up, turns, at-ends, spanned, joint}
 
 abbrev pub quad : ℚ → ℚ → ℚ → ℚ
 quad a b u = a *ℚ (u *ℚ u) +ℚ b *ℚ u
@@ -87,9 +88,6 @@ lo-of t a b = cond t (minZ (vertex-down a b) (minZ (a -ℤ b) (a +ℤ b))) (minZ
 abbrev hi-of : Bool → ℤ → ℤ → ℤ
 hi-of t a b = cond t (maxZ (vertex-up a b) (maxZ (a -ℤ b) (a +ℤ b))) (maxZ (a -ℤ b) (a +ℤ b))
 
-abbrev near : ℤ → ℤ → Bool
-near a b = leb (natAbs b) (2 * natAbs a)
-
 ends : (t : Bool) (a b : ℤ) → (lo-of t a b ≤ℤ (a -ℤ b)) × (lo-of t a b ≤ℤ (a +ℤ b)) × ((a -ℤ b) ≤ℤ hi-of t a b) × ((a +ℤ b) ≤ℤ hi-of t a b)
 ends true a b = omega (arith, ints, clamps)
 ends false a b = omega (arith, ints, clamps)
@@ -100,47 +98,40 @@ first-min x y = omega (arith, ints, clamps)
 first-max : (x y : ℤ) → x ≤ℤ maxZ x y
 first-max x y = omega (arith, ints, clamps)
 
-near-no : (m n : ℕ) → leb m n ≡ false → n < m
-near-no m n e = nleb→lt m n (subst (λ (t : Bool). T (not t)) (sym e) tt)
+turns-no : (m n : ℕ) → leb m n ≡ false → n < m
+turns-no m n e = nleb→lt m n (subst (λ (t : Bool). T (not t)) (sym e) tt)
 
-high-vertex : (j : ℕ) (b : ℤ) (t : Bool) → near (negsuc j) b ≡ t → natAbs b ≤ 2 * suc j → ceilDiv (b *ℤ b) (4 * suc j) ≤ℤ hi-of t (negsuc j) b
+high-vertex : (j : ℕ) (b : ℤ) (t : Bool) → turns (negsuc j) b ≡ t → natAbs b ≤ 2 * suc j → ceilDiv (b *ℤ b) (4 * suc j) ≤ℤ hi-of t (negsuc j) b
 high-vertex j b true e h = first-max (vertex-up (negsuc j) b) (maxZ (negsuc j -ℤ b) (negsuc j +ℤ b))
-high-vertex j b false e h = absurd (omega (arith, near-no (natAbs b) (2 * suc j) e))
+high-vertex j b false e h = absurd (omega (arith, turns-no (natAbs b) (2 * suc j) e))
 
-low-vertex : (j : ℕ) (b : ℤ) (t : Bool) → near (pos (suc j)) b ≡ t → natAbs b ≤ 2 * suc j → ceilDiv (b *ℤ b) (4 * suc j) ≤ℤ negℤ (lo-of t (pos (suc j)) b)
+low-vertex : (j : ℕ) (b : ℤ) (t : Bool) → turns (pos (suc j)) b ≡ t → natAbs b ≤ 2 * suc j → ceilDiv (b *ℤ b) (4 * suc j) ≤ℤ negℤ (lo-of t (pos (suc j)) b)
 low-vertex j b true e h = let m = first-min (vertex-down (pos (suc j)) b) (minZ (pos (suc j) -ℤ b) (pos (suc j) +ℤ b)) in omega (arith, ints)
-low-vertex j b false e h = absurd (omega (arith, near-no (natAbs b) (2 * suc j) e))
+low-vertex j b false e h = absurd (omega (arith, turns-no (natAbs b) (2 * suc j) e))
 
-high-case : (a b : ℤ) (k : ℕ) → a ≡ negsuc k → natAbs b ≤ 2 * suc k → ceilDiv (b *ℤ b) (4 * suc k) ≤ℤ hi-of (near a b) a b
+high-case : (a b : ℤ) (k : ℕ) → a ≡ negsuc k → natAbs b ≤ 2 * suc k → ceilDiv (b *ℤ b) (4 * suc k) ≤ℤ hi-of (turns a b) a b
 high-case (pos n) b k e h = absurd (pos-ne-negsuc n k e)
-high-case (negsuc j) b k e h = let q : k ≡ j = cc in rw q (high-vertex j b (near (negsuc j) b) refl (omega arith))
+high-case (negsuc j) b k e h = let q : k ≡ j = cc in rw q (high-vertex j b (turns (negsuc j) b) refl (omega arith))
 
-low-case : (a b : ℤ) (k : ℕ) → negℤ a ≡ negsuc k → natAbs b ≤ 2 * suc k → ceilDiv (b *ℤ b) (4 * suc k) ≤ℤ negℤ (lo-of (near a b) a b)
+low-case : (a b : ℤ) (k : ℕ) → negℤ a ≡ negsuc k → natAbs b ≤ 2 * suc k → ceilDiv (b *ℤ b) (4 * suc k) ≤ℤ negℤ (lo-of (turns a b) a b)
 low-case (pos zero) b k e h = absurd (pos-ne-negsuc 0 k e)
-low-case (pos (suc j)) b k e h = let q : k ≡ j = cc in rw q (low-vertex j b (near (pos (suc j)) b) refl (omega arith))
+low-case (pos (suc j)) b k e h = let q : k ≡ j = cc in rw q (low-vertex j b (turns (pos (suc j)) b) refl (omega arith))
 low-case (negsuc j) b k e h = absurd (pos-ne-negsuc (suc j) k e)
 
-pub inside-joint : (a b : ℤ) {u : ℚ} → Unital u → quad (of a) (of b) u inside joint a b
+joint-is : (a b : ℤ) → joint a b ≡ interval (lo-of (turns a b) a b) (hi-of (turns a b) a b)
 unfolding joint
+joint-is a b = go (turns a b)
+  where
+    go : (t : Bool) → cond t (spanned (interval (vertex-down a b) (vertex-up a b)) (at-ends a b)) (at-ends a b) ≡ interval (lo-of t a b) (hi-of t a b)
+    go true = refl
+    go false = refl
+
+pub inside-joint : (a b : ℤ) {u : ℚ} → Unital u → quad (of a) (of b) u inside joint a b
 inside-joint a b U =
-    let h = ends (near a b) a b in
-    record { low = quad-low a b (lo-of (near a b) a b) U (h .0) (h .1) (low-case a b); high = quad-high a b (hi-of (near a b) a b) U (h .2) (h .3) (high-case a b) }
+    let h = ends (turns a b) a b in
+    rw (joint-is a b) (record { low = quad-low a b (lo-of (turns a b) a b) U (h .0) (h .1) (low-case a b); high = quad-high a b (hi-of (turns a b) a b) U (h .2) (h .3) (high-case a b) })
 
 -- ---- the joint range lies within the plain one
-floor-ge : (z m : ℤ) (n : ℕ) → 0 < n → (m *ℤ pos n) ≤ℤ z → m ≤ℤ floorDiv z n
-floor-ge z m n above h = by-ltZ (floorDiv z n) m (λ t. absurd (clash t)) (λ t. t)
-  where
-    below : (z : ℤ) → z <ℤ (floorDiv z n *ℤ pos n +ℤ pos n)
-    below (pos a) = omega (arith, ints)
-    below (negsuc a) = omega (arith, ints)
-
-    clash : floorDiv z n <ℤ m → ⊥
-    clash t =
-        let k : ((floorDiv z n +ℤ pos 1) *ℤ pos n) ≤ℤ (m *ℤ pos n) = scale-≤ n (omega (arith, ints)) in
-        let e = ring2 ℤ-ring (λ f n. (f ⊕ lit (pos 1)) ⊗ n ≈ f ⊗ n ⊕ n) tt (floorDiv z n) (pos n) in
-        let b = below z in
-        omega (arith, ints)
-
 -- |b| ≤ 2c, so b² ≤ |b|·4c
 square-below : (b : ℤ) (c : ℕ) → natAbs b ≤ 2 * c → (b *ℤ b) ≤ℤ (pos (natAbs b) *ℤ pos (4 * c))
 square-below (pos n) c h = omega (arith, ints, mul-le-mul-left n h)
@@ -153,9 +144,9 @@ square-pos (negsuc n) = omega (arith, ints)
 -- the vertex lies from -|b| to |b|, on the side away from a
 vertex-low : (a b : ℤ) → natAbs b ≤ 2 * natAbs a → negℤ (pos (natAbs b)) ≤ℤ vertex-down a b
 vertex-low (pos zero) b h = omega (arith, ints)
-vertex-low (pos (suc k)) b h = floor-ge (negℤ (b *ℤ b)) (negℤ (pos (natAbs b))) (4 * suc k) (omega arith)
+vertex-low (pos (suc k)) b h = floor-greatest {k = negℤ (pos (natAbs b))} (negℤ (b *ℤ b)) (4 * suc k) (omega arith)
     (rw (ring2 ℤ-ring (λ x n. (⊖ x) ⊗ n ≈ ⊖ (x ⊗ n)) tt (pos (natAbs b)) (pos (4 * suc k))) (omega (arith, ints, square-below b (suc k) h)))
-vertex-low (negsuc k) b h = let s = square-pos b in ≤ℤ-through (floor-ge (b *ℤ b) (pos 0) (4 * suc k) (omega arith) (rw (zero-*ℤ (pos (4 * suc k))) s))
+vertex-low (negsuc k) b h = let s = square-pos b in ≤ℤ-through (floor-greatest {k = pos 0} (b *ℤ b) (4 * suc k) (omega arith) (rw (zero-*ℤ (pos (4 * suc k))) s))
   where
     ≤ℤ-through : pos 0 ≤ℤ floorDiv (b *ℤ b) (4 * suc k) → negℤ (pos (natAbs b)) ≤ℤ floorDiv (b *ℤ b) (4 * suc k)
     ≤ℤ-through t = omega (arith, ints)
@@ -164,16 +155,15 @@ vertex-high : (a b : ℤ) → natAbs b ≤ 2 * natAbs a → vertex-up a b ≤ℤ
 vertex-high (pos zero) b h = omega (arith, ints)
 vertex-high (pos (suc k)) b h =
     let e : negℤ (negℤ (b *ℤ b)) ≡ b *ℤ b = omega (arith, ints) in
-    let f : pos 0 ≤ℤ floorDiv (negℤ (negℤ (b *ℤ b))) (4 * suc k) = rw e (floor-ge (b *ℤ b) (pos 0) (4 * suc k) (omega arith) (rw (zero-*ℤ (pos (4 * suc k))) (square-pos b))) in
+    let f : pos 0 ≤ℤ floorDiv (negℤ (negℤ (b *ℤ b))) (4 * suc k) = rw e (floor-greatest {k = pos 0} (b *ℤ b) (4 * suc k) (omega arith) (rw (zero-*ℤ (pos (4 * suc k))) (square-pos b))) in
     omega (arith, ints)
 vertex-high (negsuc k) b h =
     let f = vertex-low (pos (suc k)) b h in omega (arith, ints)
 
 pub joint-narrows : (a b : ℤ) → Within (joint a b) (plus (even-reach (interval a a)) (full-reach (interval b b)))
-unfolding joint
-joint-narrows a b = let h = go (near a b) refl in record { low = h .0; high = h .1 }
+joint-narrows a b = let h = go (turns a b) refl in rw (joint-is a b) (record { low = h .0; high = h .1 })
   where
-    go : (t : Bool) → near a b ≡ t → ((minZ (pos 0) a +ℤ negℤ (maxZ (negℤ b) b)) ≤ℤ lo-of t a b) × (hi-of t a b ≤ℤ (maxZ (pos 0) a +ℤ maxZ (negℤ b) b))
+    go : (t : Bool) → turns a b ≡ t → ((minZ (pos 0) a +ℤ negℤ (maxZ (negℤ b) b)) ≤ℤ lo-of t a b) × (hi-of t a b ≤ℤ (maxZ (pos 0) a +ℤ maxZ (negℤ b) b))
     go true e =
         let h = leb→le (natAbs b) (2 * natAbs a) (subst (λ (t : Bool). T t) (sym e) tt) in
         let l = vertex-low a b h in

@@ -11,3 +11,4 @@ pub mod Regroup
 pub mod QuadraticLaws
 pub mod Values
 pub mod Equality
+pub mod Coefficients

@@ -44,11 +44,8 @@ pub record Pair (square linear : Term) : Type 0 where
 abbrev pub square : Monomial → Bool
 square m = eqb (degree m) 2 && even m
 
-root-linear : (m : Monomial) → square m ≡ true → degree (root m) ≡ 1
-root-linear m h =
-    let e = and-parts (eqb (degree m) 2) (even m) h in
-    let d = eqb-true (degree m) 2 (e .0) in
-    omega (arith, degree-product (root m) (root m) refl, ap degree (square-root m (e .1)))
+pub root-linear : (m : Monomial) → degree m ≡ 2 → even m ≡ true → degree (root m) ≡ 1
+root-linear m d e = omega (arith, degree-product (root m) (root m) refl, ap degree (square-root m e))
 
 square-of : (n : Monomial) → degree n ≡ 1 → square (multiplied n n) ≡ true
 square-of n h = and-from (eqb (degree (multiplied n n)) 2) (even (multiplied n n)) (eq-eqb (degree (multiplied n n)) 2 (omega (arith, degree-product n n refl))) (even-square n)
@@ -77,9 +74,10 @@ square-or-root n m b = same-test (same m (multiplied n n) && (eqb (degree n) 1 &
     (λ h.
     let f = and-parts (same n (root m)) (square m && b) h in
     let g = and-parts (square m) b (f .1) in
+    let k = and-parts (eqb (degree m) 2) (even m) (g .0) in
     let e = equal-keys by-degree monomial-of n (root m) (f .0) in
-    and-from (same m (multiplied n n)) (eqb (degree n) 1 && b) (same-refl (sym (ap (λ x. multiplied x x) e ∙ square-root m (and-parts (eqb (degree m) 2) (even m) (g .0) .1))))
-    (and-from (eqb (degree n) 1) b (eq-eqb (degree n) 1 (ap degree e ∙ root-linear m (g .0))) (g .1)))
+    and-from (same m (multiplied n n)) (eqb (degree n) 1 && b) (same-refl (sym (ap (λ x. multiplied x x) e ∙ square-root m (k .1))))
+    (and-from (eqb (degree n) 1) b (eq-eqb (degree n) 1 (ap degree e ∙ root-linear m (eqb-true (degree m) 2 (k .0)) (k .1))) (g .1)))
 
 pub pair-of : (ts : List Term) (t : Term) → Own ts t → (eqb (degree (t .monomial)) 2 && (even (t .monomial) && paired ts (root (t .monomial)))) ≡ true → Pair t (term-at ts (root (t .monomial)))
 pair-of ts t own h =
@@ -91,7 +89,7 @@ pair-of ts t own h =
     let e = entry-key by-degree monomial-of (term (root m) zero-interval) ts (root m) refl in
     record {
       squared = sym r ∙ ap (λ x. multiplied x x) (sym e);
-      unit = ap degree e ∙ root-linear m (and-from (eqb (degree m) 2) (even m) (f .0) (g .0));
+      unit = ap degree e ∙ root-linear m (eqb-true (degree m) 2 (f .0)) (g .0);
       square-point = ap point (sym own ∙ ap (coefficient-at ts) (sym r)) ∙ k .1;
       linear-point = k .0;
     }

@@ -37,7 +37,7 @@ value-cons u us e m = rw pow-is (sym (mul-is (powᶠ u e) (monomial-value us m))
 pub unit : {u : Fraction} → u within interval (negsuc 0) (pos 1) → Unital ⟦ u ⟧
 unit h = let i = inside-of h in record { low = i .low; high = i .high }
 
-one-unital : Unital (of (pos 1))
+pub one-unital : Unital (of (pos 1))
 one-unital = record { low = of-mono (omega (arith, ints)); high = ≤ℚ-refl (of (pos 1)) }
 
 one-partial : Partial (of (pos 1))

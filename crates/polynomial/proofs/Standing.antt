@@ -3,13 +3,16 @@
 use mathlib.Core.Path.{_≡_, refl, ap, sym, subst, _∙_}
 use mathlib.Core.Bool.{true, cond, true≢false}
 use mathlib.Core.List.{List, [], _∷_}
+use Prim.Native.Nat.{_+_}
+use native.Mathlib.Numerals.{one-add}
 use lib.IntN.{pos}
+use lib.ListN.{getD, drop}
 use Rattle.std.specs.declared.cmp.Ordering.{Ordering}
 use Rattle.std.specs.declared.cmp.Ordering.the-variants.{Less, Equal, Greater}
 use Rattle.std.specs.Orderings.{isLt, isEq, isGt, reversed}
 use Rattle.std.specs.shelf.Lists.{All}
 use Rattle.table.specs.Order.{Order}
-use Rattle.table.specs.Table.{by-rank, entry, Next, Ascending}
+use Rattle.table.specs.Table.{by-rank, place, first-is, has-key, entry, Next, Ascending}
 use Rattle.rational.proofs.Solver.{Ring, lit, _⊕_, _≈_, ring1}
 use Rattle.polynomial.proofs.Totals.{total}
 
@@ -48,6 +51,28 @@ module _ {E K : Type 0} (o : Order K) (key : E → K) where
       go Less e rest = rest
       go Equal e rest = o .exact (key x) k e
       go Greater e rest = h
+
+  -- it is the one at the place that a search tells, if that finds the key
+  pub entry-found : (d : E) (es : List E) (k : K) → entry o key d es k ≡ cond (has-key o key es k) (getD es (place o key es k) d) d
+  entry-found d [] k = refl
+  entry-found d (x ∷ xs) k = go (o .rank (key x) k) refl (entry-found d xs k)
+    where
+      go : (r : Ordering) → o .rank (key x) k ≡ r → entry o key d xs k ≡ cond (has-key o key xs k) (getD xs (place o key xs k) d) d
+          → by-rank r (entry o key d xs k) x d
+          ≡ cond (first-is o key k (drop (cond (isLt r) (1 + place o key xs k) 0) (x ∷ xs))) (getD (x ∷ xs) (cond (isLt r) (1 + place o key xs k) 0) d) d
+      go Less e rest = rw one-add rest
+      go Equal e rest = rw e refl
+      go Greater e rest = rw e refl
+
+  -- what holds of all entries, and of d, holds of it
+  pub entry-all : (P : E → Type 0) (d : E) (es : List E) (k : K) → P d → All P es → P (entry o key d es k)
+  entry-all P d [] k p h = p
+  entry-all P d (x ∷ xs) k p h = go (o .rank (key x) k) (entry-all P d xs k p (h .1))
+    where
+      go : (r : Ordering) → P (entry o key d xs k) → P (by-rank r (entry o key d xs k) x d)
+      go Less rest = rest
+      go Equal rest = h .0
+      go Greater rest = p
 
   -- every entry is found under its key
   pub entry-own : (d : E → E) (es : List E) → Ascending o key es → All (λ e. entry o key (d e) es (key e) ≡ e) es

@@ -23,13 +23,21 @@ vertex-up (pos zero) b = pos 0
 vertex-up (pos (suc k)) b = ceilDiv (negℤ (b *ℤ b)) (4 * suc k)
 vertex-up (negsuc k) b = ceilDiv (b *ℤ b) (4 * suc k)
 
--- the joint range of a·u² and b·u: of a - b, a + b and, if |b| is at most 2|a|, the vertex
+-- the vertex lies between u = -1 and u = 1: |b| is at most 2|a|
+abbrev pub turns : ℤ → ℤ → Bool
+turns a b = leb (natAbs b) (2 * natAbs a)
+
+-- from the lesser to the greater value at u = -1 and u = 1
+abbrev pub at-ends : ℤ → ℤ → Interval
+at-ends a b = interval (minZ (a -ℤ b) (a +ℤ b)) (maxZ (a -ℤ b) (a +ℤ b))
+
+-- the least interval that holds both
+abbrev pub spanned : Interval → Interval → Interval
+spanned i j = interval (minZ (i .lower) (j .lower)) (maxZ (i .upper) (j .upper))
+
+-- the joint range of a·u² and b·u: the values at the ends and, where it turns between them, the vertex
 unfoldable pub joint : ℤ → ℤ → Interval
-joint a b =
-    let turns = leb (natAbs b) (2 * natAbs a) in
-    let low = minZ (a -ℤ b) (a +ℤ b) in
-    let high = maxZ (a -ℤ b) (a +ℤ b) in
-    interval (cond turns (minZ (vertex-down a b) low) low) (cond turns (maxZ (vertex-up a b) high) high)
+joint a b = cond (turns a b) (spanned (interval (vertex-down a b) (vertex-up a b)) (at-ends a b)) (at-ends a b)
 
 -- a term is there, with equal ends
 abbrev pub point : Interval → Bool
