@@ -13,18 +13,3 @@ pub trait Ranging {
         ensures value { λ r. ⌜ r ≡ meaning (now (self .entry)) .range (now (terms .entry)) ⌝ }
         ensures laws { λ r. ⌜ Ranges (now (terms .entry)) r ⌝ };
 }
-
-// The reaches added up.
-#[derive(Clone, Copy)]
-pub struct Plain;
-
-// As plain, with a joint range for a linear and a square term of one variable.
-#[derive(Clone, Copy)]
-pub struct Quadratic;
-
-// The larger lower end and the smaller upper end of two methods.
-#[derive(Clone, Copy)]
-pub struct Meet<A, B> {
-    pub first: A,
-    pub second: B,
-}
