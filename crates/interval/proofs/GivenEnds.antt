@@ -54,6 +54,13 @@ high-out a b c h e = grind (arith, ints)
 both-in : (a b c d : ℤ) → fits (interval a b) ≡ true → fits (interval c d) ≡ true → fits (interval a d) ≡ true
 both-in a b c d e f = grind (arith, ints)
 
+-- ends inside others fit where those do
+pub inner-fits : (S : ℕ) (x y u w : Float) → value x ≤ᶠ value u → value w ≤ᶠ value y → fits (hull-ends S x y) ≡ true → fits (hull-ends S u w) ≡ true
+inner-fits S x y u w p q = go (hull S x .lower) (hull S u .lower) (hull S w .upper) (hull S y .upper) (hull-mono S x u p .0) (hull-mono S w y q .1)
+  where
+    go : (a b c d : ℤ) → a ≤ℤ b → c ≤ℤ d → fits (interval a d) ≡ true → fits (interval b c) ≡ true
+    go a b c d h k e = grind (arith, ints)
+
 -- ---- centre and half width of a and b
 middle : (a b : ℤ) → let c = floorDiv (a +ℤ b) 2 in ((c *ℤ pos 2) ≤ℤ (a +ℤ b)) × ((a +ℤ b) <ℤ (c *ℤ pos 2 +ℤ pos 2))
 middle a b = (floor-le (a +ℤ b) 2 (lit< tt), floor-next (a +ℤ b) 2 (lit< tt))

@@ -1,7 +1,7 @@
 -- A number that is passed to a call goes through its 64 bits. Ends that fit, their products, and the least and the greatest
 -- of four products come out as they went in. Assumes nothing.
 use mathlib.Core.Path.{_≡_, ap₂, _∙_}
-use Prim.Native.Nat.{_^_}
+use Prim.Native.Nat.{ℕ, _^_}
 use native.Mathlib.Omega.{arith}
 use lib.IntN.{ℤ, _*ℤ_}
 use mir.Syntax.{w64}
@@ -9,7 +9,8 @@ use mir.Val.{toZ, ofZ}
 use borrow.Author.Differences.{ints}
 use Rattle.std.specs.Numbers.{minZ, maxZ}
 use Rattle.std.proofs.shelf.Signed.{clamps, toZ-ofZ}
-use Rattle.interval.specs.Interval.{limit, Bounded}
+use Rattle.interval.specs.declared.marks.Interval.{Interval}
+use Rattle.interval.specs.Interval.{limit, interval, Bounded, floorDiv, ceilDiv}
 
 abbrev pub Small : ℤ → Type 0
 Small z = Bounded (2 ^ 62) z
@@ -56,3 +57,7 @@ greatest-is p q r s e f g =
     let b = max-is r s f in
     let c = max-is (a .1) (b .1) g in
     (c .0 ∙ ap₂ maxZ (a .0) (b .0), c .1)
+
+-- ---- both, rounded outward
+pub rounded-is : {l g x y : ℤ} {r : Interval} (S : ℕ) → Small l → Small g → l ≡ x → g ≡ y → r ≡ interval (floorDiv (passed l) S) (ceilDiv (passed g) S) → r ≡ interval (floorDiv x S) (ceilDiv y S)
+rounded-is S h k p q e = e ∙ ap₂ (λ a b. interval (floorDiv a S) (ceilDiv b S)) (same h ∙ p) (same k ∙ q)

@@ -1,17 +1,22 @@
 -- How large the ends of a result are, from the sizes of its operands. Assumes nothing.
-use mathlib.Core.Path.{_≡_}
+use mathlib.Core.Path.{_≡_, sym, subst}
 use mathlib.Core.Bool.{true}
 use Prim.Native.Nat.{ℕ, _+_, _*_, _≤_, _<_}
 use native.Mathlib.Nat.{mul-le-mul, div-le-self}
 use native.Mathlib.Omega.{arith}
 use lib.IntN.{ℤ, pos, negsuc, negℤ, _*ℤ_}
+use lib.Pow.{pow-pos}
 use lib.Signed.{_≤ℤ_}
 use borrow.Author.Differences.{up, down, product-is, ints}
 use Rattle.std.proofs.shelf.Signed.{clamps}
 use Rattle.std.specs.Numbers.{minZ, maxZ}
 use Rattle.interval.specs.declared.marks.Interval.{Interval}
 use Rattle.interval.specs.Interval.{Bounded, Sized, Fits, fits, floorDiv, ceilDiv, least, greatest, plus, minus, negated, times, even-reach, full-reach}
+use Rattle.interval.specs.Kind.{Is-scale}
 use Rattle.interval.proofs.Rounding.{floor-le-ceil}
+
+pub scale-above : {S : ℕ} → Is-scale S → 0 < S
+scale-above s = subst (λ (k : ℕ). 0 < k) (sym (s .2)) (pow-pos (s .0))
 
 -- ---- one number
 size : {n : ℕ} (a : ℤ) → Bounded n a → up a + down a ≤ n

@@ -1,4 +1,4 @@
-// Intervals of marks, hulls of binary64 values, and the kinds of coefficient.
+// Intervals of marks, hulls of binary64 values, variables, the kinds of coefficient, and the reasons of refusals.
 mod arithmetic; // sums, products and reaches of intervals
 mod comparing; // the order of two binary64 values
 mod hulls; // the hull of a binary64 value
@@ -9,6 +9,8 @@ mod marks; // an interval: two ends in marks
 mod reason; // why something is refused
 mod refusal; // a reason with a line and a place
 mod scale; // how many marks make a unit
+#[cfg(test)]
+mod tests; // figures, row by row
 mod variable; // an input with its ends
 
 pub use comparing::compare;
@@ -44,6 +46,3 @@ pub use scale::ScaleEq;
 pub use scale::ScalePartialEq;
 pub use variable::Variable;
 pub use variable::VariableDebug;
-
-#[cfg(test)]
-mod tests; // figures, row by row

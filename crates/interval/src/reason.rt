@@ -18,7 +18,7 @@ pub enum Reason {
     EndNotFinite = 4,
     // a lower end is above its upper end
     EndsCrossed = 5,
-    // the hulls of the two ends do not fit
+    // the lower end's hull begins below -LIMIT, or the upper end's hull ends above LIMIT
     EndDoesNotFit = 6,
     // ---- posting, narrowing and striking
     // the office is 0 or above 255
@@ -49,13 +49,13 @@ pub enum Reason {
     TooFewOperands = 30,
     // a ninth operand would stand
     TooManyOperands = 31,
-    // a sum or the kept pairs of a product have more than 40 monomials
+    // the two operands of a sum together, or the kept pairs of a product, have more than 40 monomials
     TooManyMonomials = 32,
     // a product of intervals, or a part of a tested model, does not fit
     DoesNotFit = 33,
     // more than one operand stands at the end
     OperandsLeft = 34,
-    // the pairs and all accounts together pass the allowance
+    // the pairs of the work and all accounts together pass the allowance
     AllowancePassed = 35,
     // ---- narrowing
     // the variable's number is not below the number of variables
@@ -83,7 +83,7 @@ impl Reason {
         self as u8
     }
 
-    // One clause of plain English.
+    // One clause of plain English for users.
     pub fn words(self) -> &'static str
         ensures value { λ r. ⌜ now r ≡ words self ⌝ }
     {

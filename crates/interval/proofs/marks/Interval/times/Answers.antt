@@ -1,10 +1,10 @@
 -- The ends fit, so that the four products, their least and their greatest are small.
 use mathlib.Core.Path.{ap₂, _∙_}
 use Rattle.std.specs.Numbers.{minZ, maxZ}
-use Rattle.interval.specs.Interval.{interval, floorDiv, ceilDiv, times}
+use Rattle.interval.specs.Interval.{times}
 use Rattle.interval.specs.Scale.{per-unit}
 use Rattle.interval.proofs.Sizes.{lower-bounded, upper-bounded}
-use Rattle.interval.proofs.Passed.{same, passed-small, end, product-is, least-is, greatest-is}
+use Rattle.interval.proofs.Passed.{passed-small, end, product-is, least-is, greatest-is, rounded-is}
 use Rattle.interval.proofs.marks.Interval.times.Needs as need
 
 pub product-lu-requires : need.product-lu-requires
@@ -41,9 +41,6 @@ returns c =
     let s = c .product-uu .ensures .bound in
     let l = least-is p q r s (c .min .ensures .value) (c .min-2 .ensures .value) (c .min-least .ensures .value) in
     let g = greatest-is p q r s (c .max .ensures .value) (c .max-2 .ensures .value) (c .max-greatest .ensures .value) in
-    let S = per-unit (c .args .scale) in
     record {
-      value = c .rounded-out .ensures .value ∙ ap₂ (λ x y. interval (floorDiv x S) (ceilDiv y S))
-          (same (l .1) ∙ l .0 ∙ ap₂ minZ (ap₂ minZ ll lu) (ap₂ minZ ul uu))
-          (same (g .1) ∙ g .0 ∙ ap₂ maxZ (ap₂ maxZ ll lu) (ap₂ maxZ ul uu));
+      value = rounded-is (per-unit (c .args .scale)) (l .1) (g .1) (l .0 ∙ ap₂ minZ (ap₂ minZ ll lu) (ap₂ minZ ul uu)) (g .0 ∙ ap₂ maxZ (ap₂ maxZ ll lu) (ap₂ maxZ ul uu)) (c .rounded-out .ensures .value);
     }
