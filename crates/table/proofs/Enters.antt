@@ -1,6 +1,6 @@
 -- What an entry leaves in a slice: the table with it at the front, the rest as it was. Assumes nothing.
-use mathlib.Core.Path.{_≡_, refl, sym, ap, _∙_}
-use mathlib.Core.Bool.{Bool, true, false}
+use mathlib.Core.Path.{_≡_, refl, sym, ap, subst, _∙_}
+use mathlib.Core.Bool.{true, false}
 use mathlib.Core.List.{List, _++_}
 use Prim.Native.Nat.{ℕ, _+_, _≤_, _<_}
 use native.Mathlib.Omega.{arith}
@@ -8,53 +8,52 @@ use lib.Dec.{leb}
 use lib.ListN.{length, take, drop, getD, set}
 use Rattle.std.proofs.shelf.Edits.{length-inserted}
 use Rattle.std.proofs.shelf.Elements.{all-getD}
-use Rattle.std.proofs.shelf.Lists.{getD-take, getD-default, length-set, length-take-le, set-append-left, take-append-drop}
+use Rattle.std.proofs.shelf.Lists.{getD-take, getD-read, length-set, length-take-le, set-append-left, take-append-drop}
 use Rattle.std.proofs.shelf.Tests.{le-leb, lt-leb}
 use Rattle.std.specs.shelf.Lists.{All, inserted}
 use Rattle.table.specs.Order.{Order}
 use Rattle.table.specs.Table.{place, has-key, entered}
 use Rattle.table.specs.Slice.{over}
-use Rattle.table.proofs.Places.{placed, entered-placed}
+use Rattle.table.proofs.Places.{entered-placed}
 
--- what holds of all entries in use holds of the one read at place i
-pub all-in-use : {E : Type 0} (P : E → Type 0) (slice : List E) (n i : ℕ) (d : E) → n ≤ length slice → i < n → All P (take n slice) → P (getD slice i d)
-all-in-use P slice n i d room low h = rw getD-take at (all-getD P (take n slice) i d (rw length-take-le (low)) h)
+module _ {E : Type 0} (slice : List E) (n i : ℕ) (x : E) (room : n ≤ length slice) (low : i < n) (is : x ≡ getD slice i x) where
+  read : (d : E) → getD (take n slice) i d ≡ x
+  read d = getD-take n slice i d low ∙ sym (getD-read slice i x (omega arith) is d)
 
-module _ {E K : Type 0} (o : Order K) (key : E → K) (join : E → E → E) (slice : List E) (n i : ℕ) (e : E) (k : K) (is-key : k ≡ key e) (room : n ≤ length slice) (is-place : i ≡ place o key (take n slice) k) where
-  abbrev table : List E
-  table = entered o key join (take n slice) e
+  -- what holds of all entries in use holds of the one at place i
+  pub all-in-use : (P : E → Type 0) → All P (take n slice) → P x
+  all-in-use P h = let short : i < length (take n slice) = rw length-take-le (low) in subst P (read x) (all-getD P (take n slice) i x short h)
 
-  entered-at : (b : Bool) → b ≡ has-key o key (take n slice) k → table ≡ placed o key join (take n slice) e i b
-  entered-at b h = entered-placed o key join (take n slice) e ∙ rw (is-place, h, is-key) refl
+  module _ {K : Type 0} (o : Order K) (key : E → K) (join : E → E → E) (e : E) (is-place : i ≡ place o key (take n slice) (key e)) (found : has-key o key (take n slice) (key e) ≡ true) where
+    joined-there : entered o key join (take n slice) e ≡ set (take n slice) i (join x e)
+    joined-there = entered-placed o key join (take n slice) e ∙ rw (found, ← is-place) (ap (λ y. set (take n slice) i (join y e)) (read e))
 
-  -- by its length, ts written over the front
-  over-is : (ts : List E) (m : ℕ) → table ≡ ts → length ts ≡ m → ts ++ drop m slice ≡ over table slice
-  over-is ts m t long = rw (t, long) refl
+    -- y, the entry at place i with e joined to it, is written there
+    pub joins-there : (y : E) → y ≡ join x e → (set slice i y ≡ over (entered o key join (take n slice) e) slice) × (length (entered o key join (take n slice) e) ≡ n)
+    joins-there y q =
+        let short : i < length (take n slice) = rw length-take-le (low) in
+        let long : length (set (take n slice) i (join x e)) ≡ n = length-set (take n slice) i (join x e) ∙ length-take-le n slice room in
+        let split : set slice i (join x e) ≡ set (take n slice) i (join x e) ++ drop n slice =
+        ap (λ xs. set xs i (join x e)) (sym (take-append-drop n slice)) ∙ set-append-left (take n slice) (drop n slice) i (join x e) short in
+        (ap (set slice i) q ∙ split ∙ rw (joined-there, long) refl, ap length joined-there ∙ long)
 
-  -- y, the entry at place i with e joined to it, is written there
-  pub joins-there : (d y : E) → true ≡ has-key o key (take n slice) k → i < n → y ≡ join (getD slice i d) e
-      → (true ≡ leb (length table) (length slice)) × (set slice i y ≡ over table slice) × (n ≡ length table)
-  joins-there d y h low is =
-      let old : getD (take n slice) i e ≡ getD slice i d = getD-take n slice i e low ∙ getD-default slice i e d (omega arith) in
-      let t : table ≡ set (take n slice) i y = entered-at true h ∙ ap (λ x. set (take n slice) i (join x e)) old ∙ ap (set (take n slice) i) (sym is) in
-      let long : length (set (take n slice) i y) ≡ n = length-set (take n slice) i y ∙ length-take-le n slice room in
-      let short : i < length (take n slice) = rw length-take-le (low) in
-      let size : length table ≡ n = ap length t ∙ long in (
-        sym (le-leb (length table) (length slice) (omega arith)),
-        ap (λ xs. set xs i y) (sym (take-append-drop n slice)) ∙ set-append-left (take n slice) (drop n slice) i y short ∙ over-is (set (take n slice) i y) n t long,
-        sym size,
-      )
+-- an entry whose key does not stand is put at its place
+module _ {E K : Type 0} (o : Order K) (key : E → K) (join : E → E → E) (slice : List E) (n i : ℕ) (e : E) (room : n ≤ length slice) (low : i ≤ n) (is-place : i ≡ place o key (take n slice) (key e)) (missing : has-key o key (take n slice) (key e) ≡ false) where
+  put-there : entered o key join (take n slice) e ≡ inserted (take n slice) i e
+  put-there = entered-placed o key join (take n slice) e ∙ rw (missing, ← is-place) refl
 
-  -- it is put at place i, if there is room
-  pub comes-between : false ≡ has-key o key (take n slice) k → i ≤ n
-      → (n < length slice → true ≡ leb (length table) (length slice)) × (length slice ≤ n → false ≡ leb (length table) (length slice)) × (inserted (take n slice) i e ++ drop (n + 1) slice ≡ over table slice) × (n + 1 ≡ length table)
-  comes-between h low =
-      let t : table ≡ inserted (take n slice) i e = entered-at false h in
-      let front = length-take-le n slice room in
-      let long : length (inserted (take n slice) i e) ≡ n + 1 = length-inserted (take n slice) i e (omega arith) ∙ ap (λ m. m + 1) front in
-      let size : length table ≡ n + 1 = ap length t ∙ long in (
-        λ more. sym (le-leb (length table) (length slice) (omega arith)),
-        λ full. sym (lt-leb (length table) (length slice) (omega arith)),
-        over-is (inserted (take n slice) i e) (n + 1) t long,
-        sym size,
-      )
+  long : length (inserted (take n slice) i e) ≡ n + 1
+  long = let front = length-take-le n slice room in length-inserted (take n slice) i e (omega arith) ∙ ap (λ m. m + 1) front
+
+  pub one-more : length (entered o key join (take n slice) e) ≡ n + 1
+  one-more = ap length put-there ∙ long
+
+  pub comes-between : (after : List E) → after ≡ inserted (take n slice) i e ++ drop (n + 1) slice → after ≡ over (entered o key join (take n slice) e) slice
+  comes-between after is = is ∙ rw (put-there, long) refl
+
+  -- if there is room for it
+  pub has-room : (n ≡ length slice → ⊥) → true ≡ leb (length (entered o key join (take n slice) e)) (length slice)
+  has-room more = sym (le-leb (length (entered o key join (take n slice) e)) (length slice) (omega (arith, one-more)))
+
+  pub no-room : n ≡ length slice → false ≡ leb (length (entered o key join (take n slice) e)) (length slice)
+  no-room full = sym (lt-leb (length (entered o key join (take n slice) e)) (length slice) (omega (arith, one-more)))

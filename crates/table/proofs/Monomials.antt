@@ -2,11 +2,11 @@
 use mathlib.Core.Path.{_≡_, refl, sym, ap, ap₂, _∙_}
 use mathlib.Core.Bool.{true, false, _&&_}
 use mathlib.Core.List.{[], _∷_}
-use Prim.Native.Nat.{ℕ, zero, suc, _+_, _/_, _%_, _<_}
+use Prim.Native.Nat.{ℕ, zero, suc, _+_, _/_, _%_, _≤_, _<_}
 use native.Mathlib.Omega.{arith}
 use lib.Dec.{eqb}
 use lib.ListN.{length, getD, drop}
-use Rattle.std.proofs.shelf.Lists.{ext-getD, length-map, getD-map, at-drop-more}
+use Rattle.std.proofs.shelf.Lists.{ext-getD, length-map, getD-map, at-drop-more, at-drop-all}
 use Rattle.std.proofs.shelf.Sums.{sumBy-cons}
 use Rattle.std.proofs.shelf.Tests.{eqb-true, eq-eqb, ne-eqb, and-parts, and-from}
 use Rattle.table.specs.Monomial.{Monomial, degree, even, multiplied, root}
@@ -67,9 +67,22 @@ is-root m s l h =
     ext-getD 0 s (root m) (l ∙ sym (length-map m (λ e. e / 2)))
     (λ k b. let low : k < length m = omega arith in h k low ∙ sym (getD-map (λ e. e / 2) m k 0 0 low))
 
--- from place i on, by the exponent there
-pub odd-at : (m : Monomial) (i : ℕ) → i < length m → (getD m i 0 % 2 ≡ 0 → ⊥) → even (drop i m) ≡ false
-odd-at m i h odd = at-drop-more even m i 0 h ∙ ap (λ b. b && even (drop (i + 1) m)) (ne-eqb (getD m i 0 % 2) 0 odd)
+-- ---- the exponents from place i on tell whether all are even
+pub record Evens-ahead (m : Monomial) (i : ℕ) : Type 0 where
+  pub same : even m ≡ even (drop i m)
+  pub odd : i < length m → (getD m i 0 % 2 ≡ 0 → ⊥) → even m ≡ false
+  pub past : length m ≤ i → even m ≡ true
 
-pub even-at : (m : Monomial) (i : ℕ) → i < length m → getD m i 0 % 2 ≡ 0 → even (drop i m) ≡ even (drop (i + 1) m)
-even-at m i h two = at-drop-more even m i 0 h ∙ ap (λ b. b && even (drop (i + 1) m)) (eq-eqb (getD m i 0 % 2) 0 two)
+evens-ahead : (m : Monomial) (i : ℕ) → even m ≡ even (drop i m) → Evens-ahead m i
+evens-ahead m i e = record {
+  same = e;
+  odd = λ h o. e ∙ at-drop-more even m i 0 h ∙ ap (λ b. b && even (drop (i + 1) m)) (ne-eqb (getD m i 0 % 2) 0 o);
+  past = λ h. e ∙ at-drop-all even m i h;
+}
+
+pub evens-none : (m : Monomial) → Evens-ahead m 0
+evens-none m = evens-ahead m 0 refl
+
+pub evens-more : (m : Monomial) (i : ℕ) → i < length m → getD m i 0 % 2 ≡ 0 → Evens-ahead m i → Evens-ahead m (i + 1)
+evens-more m i h two a =
+    evens-ahead m (i + 1) (a .same ∙ at-drop-more even m i 0 h ∙ ap (λ b. b && even (drop (i + 1) m)) (eq-eqb (getD m i 0 % 2) 0 two))

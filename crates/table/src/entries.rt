@@ -13,12 +13,12 @@ ghost use Rattle.table.specs.View.{slice-of, in-use};
 use crate::lookup::Entry;
 use crate::lookup::Found;
 use crate::lookup::search;
-use crate::moves::clear;
-use crate::moves::compact;
+use crate::moves::drop_spent;
 use crate::moves::insert_at;
+use crate::moves::join_at;
 
 // No place is left in the slice.
-#[derive(Clone, Copy)]
+#[derive(Clone, Copy, Debug)]
 pub struct Full;
 
 #[derive(Drop)]
@@ -48,15 +48,12 @@ impl<E: Entry> Table<'_, E> {
         ensures lender { λ _. ⌜ name (now (self .exit) .entries) ≡ name (now (self .entry) .entries) ⌝ }
     {
         let at = self.find(entry.key());
+        let count = self.count;
         if at.found {
-            self.entries[at.place] = self.entries[at.place].join(entry);
+            join_at(self.entries, count, at.place, entry);
             return Ok(());
         }
-        let count = self.count;
-        if count == self.entries.len() {
-            return Err(Full);
-        }
-        insert_at(self.entries, count, at.place, entry);
+        insert_at(self.entries, count, at.place, entry)?;
         self.count = count + 1;
         Ok(())
     }
@@ -68,9 +65,7 @@ impl<E: Entry> Table<'_, E> {
         ensures count { λ _. ⌜ now (self .exit) .count ≡ length (kept-by (λ e. not (spent e)) (in-use (now (self .entry)))) ⌝ }
         ensures lender { λ _. ⌜ name (now (self .exit) .entries) ≡ name (now (self .entry) .entries) ⌝ }
     {
-        let count = self.count;
-        let used = compact(self.entries, count);
-        clear(self.entries, used, count, blank);
-        self.count = used;
+        let used = self.count;
+        self.count = drop_spent(self.entries, used, blank);
     }
 }

@@ -33,9 +33,9 @@ pub fn product(a: Monomial, b: Monomial) -> Monomial
     requires { ⌜ degree a + degree b ≤ 255 ⌝ }
     ensures value { λ r. ⌜ r ≡ multiplied a b ⌝ }
 {
-    let mut sums = a;
+    let mut sums = [0; 6];
     for i in 0..6 {
-        sums[i] += b[i];
+        sums[i] = a[i] + b[i];
     }
     sums
 }

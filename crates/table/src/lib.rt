@@ -7,6 +7,7 @@ mod moves; // moves within a slice
 mod order; // keys with a total order
 
 pub use entries::Full;
+pub use entries::FullDebug;
 pub use entries::Table;
 pub use exponents::Monomial;
 pub use exponents::all_even;
@@ -24,3 +25,6 @@ pub use lookup::search;
 pub use order::ByDegree;
 pub use order::ByNumber;
 pub use order::TotalOrder;
+
+#[cfg(test)]
+mod tests;

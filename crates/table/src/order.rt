@@ -1,5 +1,7 @@
 // Keys with a total order: offices by number, monomials by degree.
 ghost use mathlib.Core.Path.{_≡_};
+ghost use Rattle.std.specs.Keys.{unsigned};
+ghost use Rattle.std.specs.Lexical.{lex};
 ghost use Rattle.table.specs.Order.{Order, by-number, by-degree};
 use crate::exponents::Monomial;
 use crate::exponents::degree;
@@ -20,11 +22,19 @@ pub impl TotalOrder for u8 as ByNumber {
     }
 }
 
-// At equal degree the larger exponent at the first difference comes first.
+// The larger exponent at the first difference comes first.
+fn compare_exponents(a: Monomial, b: Monomial) -> Ordering
+    ensures value { λ r. ⌜ r ≡ lex unsigned b a ⌝ }
+{
+    b.cmp(&a)
+}
+
 pub impl TotalOrder for Monomial as ByDegree {
     ghost order = { by-degree };
 
     fn compare(self, other: Monomial) -> Ordering {
-        degree(self).cmp(&degree(other)).then(other.cmp(&self))
+        degree(self)
+            .cmp(&degree(other))
+            .then(compare_exponents(self, other))
     }
 }

@@ -1,11 +1,29 @@
-use native.Mathlib.Omega.{arith}
-use Rattle.table.proofs.Shifts.{shifted-up}
+use mathlib.Core.Path.{refl}
+use Rattle.table.proofs.Enters.{one-more, comes-between, has-room, no-room}
 use Rattle.table.proofs.moves.insert_at.Needs as need
+
+pub returns-then-count-entries : need.returns-then-count-entries
+returns-then-count-entries g c =
+    let o = g .Key·TotalOrder .order in
+    let key = g .E·Entry .keyed in
+    let join = g .E·Entry .joined in
+    let a = c .args in
+    let p = c .pre in
+    record {
+      answer = no-room o key join (a .entries .now) (a .count) (a .at) (a .entry) (p .room .0) (p .room .1) (p .place) (p .missing) (c .if-count-entries .taken);
+      after = refl {a = a .entries .now};
+      size = one-more o key join (a .entries .now) (a .count) (a .at) (a .entry) (p .room .0) (p .room .1) (p .place) (p .missing);
+    }
 
 pub returns : need.returns
 returns g c =
-    let v = c .loop-i .inv in
+    let o = g .Key·TotalOrder .order in
+    let key = g .E·Entry .keyed in
+    let join = g .E·Entry .joined in
+    let a = c .args in
+    let p = c .pre in
     record {
-      after = shifted-up (c .args .entries .now) (c .loop-i .entries) (c .args .count) (c .args .at) (c .args .entry) (omega arith) (omega arith) (v .2)
-          (λ k d h. v .3 k d (omega arith)) (λ k d h l. v .4 k d (omega arith) l) (v .5);
+      answer = has-room o key join (a .entries .now) (a .count) (a .at) (a .entry) (p .room .0) (p .room .1) (p .place) (p .missing) (c .if-count-entries .left);
+      after = comes-between o key join (a .entries .now) (a .count) (a .at) (a .entry) (p .room .0) (p .room .1) (p .place) (p .missing) (c .shift-in .last .entries) (c .shift-in .ensures .after);
+      size = one-more o key join (a .entries .now) (a .count) (a .at) (a .entry) (p .room .0) (p .room .1) (p .place) (p .missing);
     }

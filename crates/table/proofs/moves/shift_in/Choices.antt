@@ -1,7 +1,7 @@
 use mathlib.Core.Path.{_≡_}
 use Prim.Native.Nat.{ℕ, _≤_, _<_, _-_}
 use lib.ListN.{getD, length}
-use Rattle.table.proofs.moves.insert_at.Given as given
+use Rattle.table.proofs.moves.shift_in.Given as given
 
 -- below the hole nothing has moved, above it each entry has come one place up, and past the count nothing has moved
 abbrev pub Inv-loop-i : given.InvT-loop-i
