@@ -1,4 +1,4 @@
--- What a shift by one place leaves, as a list. Assumes nothing.
+-- What a shift by one place and a row of blanks leave in a slice. Assumes nothing.
 use mathlib.Core.Path.{_≡_}
 use mathlib.Core.List.{List, [], _++_}
 use Prim.Native.Nat.{ℕ, _+_, _-_, _≤_, _<_}
@@ -11,6 +11,7 @@ use Rattle.std.specs.shelf.Lists.{inserted}
 use Rattle.table.specs.Slice.{over, packed}
 
 module _ {X : Type 0} where
+  -- each entry from `at` on has come one place up
   pub shifted-up : (xs ys : List X) (count at : ℕ) (e : X) → at ≤ count → count < length xs → length ys ≡ length xs
       → ((k : ℕ) (d : X) → k ≤ at → getD ys k d ≡ getD xs k d)
       → ((k : ℕ) (d : X) → at < k → k ≤ count → getD ys k d ≡ getD xs (k - 1) d)
@@ -20,7 +21,7 @@ module _ {X : Type 0} where
       same-lists _ _ (search (needs, places))
       (λ k d h. grind (arith, places, getD-set-same, cases-eq k at, low k d, mid k d, high k d))
 
-  -- ts at the front and blanks up to i, then one more
+  -- blanks from the end of ts up to place i: none, and one more
   pub blank-none : (xs : List X) (i : ℕ) (b : X) → i ≤ length xs → xs ≡ over (packed i b (take i xs)) xs
   blank-none xs i b h = same-lists _ _ (search (needs, places, length-replicate)) (λ k d l. grind (arith, places, getD-replicate, length-replicate))
 

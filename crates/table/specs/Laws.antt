@@ -60,6 +60,7 @@ module _ {E K : Type 0} (o : Order K) (key : E → K) where
 
   -- ---- an entry that comes
   module _ (join : E → E → E) where
+    -- the table stays ascending
     abbrev pub Stays-ascending : Type 0
     Stays-ascending = (es : List E) (e : E) → Ascending o key es → Ascending o key (entered o key join es e)
 

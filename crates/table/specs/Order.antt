@@ -12,12 +12,14 @@ use Rattle.std.specs.Lexical.{lexical, lex}
 use Rattle.std.proofs.shelf.Lookups.{exact-unsigned, exact-bytes}
 use Rattle.table.specs.Monomial.{Monomial, degree}
 
+-- ranks that turn round with their keys, pass on, and are Equal only at equal keys
 pub record Order (K : Type 0) : Type 0 where
   pub rank : K → K → Ordering
   pub flip : (x y : K) → rank x y ≡ reversed (rank y x)
   pub trans : (x y z : K) → rank x y ≡ Less → rank y z ≡ Less → rank x z ≡ Less
   pub exact : (x y : K) → rank x y ≡ Equal → x ≡ y
 
+-- offices, ascending
 abbrev pub by-number : Order ℕ
 by-number = record { rank = unsigned .cmp; flip = unsigned .flip; trans = unsigned .trans; exact = exact-unsigned }
 
@@ -36,6 +38,7 @@ second-equal Greater m e = absurd (true≢false (ap isGt e))
 pub monomials-exact : (x y : Monomial) → rank-monomials x y ≡ Equal → x ≡ y
 monomials-exact x y e = sym (exact-bytes y x (second-equal (unsigned .cmp (degree x) (degree y)) (lex unsigned y x) e))
 
+-- that is a total order
 abbrev pub by-degree : Order Monomial
 by-degree = record {
   rank = rank-monomials;

@@ -10,6 +10,7 @@ use Rattle.std.specs.Orderings.{isLt, isEq}
 use Rattle.std.specs.shelf.Lists.{leading}
 use Rattle.table.specs.Order.{Order}
 
+-- the first, the second or the third, by a rank
 abbrev pub by-rank : {A : Type 0} → Ordering → A → A → A → A
 by-rank Less a b c = a
 by-rank Equal a b c = b
@@ -20,6 +21,7 @@ module _ {E K : Type 0} (o : Order K) (key : E → K) where
   abbrev pub place : List E → K → ℕ
   place es k = leading (λ e. isLt (o .rank (key e) k)) es
 
+  -- the first entry has the key k
   abbrev pub first-is : K → List E → Bool
   first-is k [] = false
   first-is k (x ∷ xs) = isEq (o .rank (key x) k)
@@ -38,6 +40,7 @@ module _ {E K : Type 0} (o : Order K) (key : E → K) where
   entered join [] e = e ∷ []
   entered join (x ∷ xs) e = by-rank (o .rank (key x) (key e)) (x ∷ entered join xs e) (join x e ∷ xs) (e ∷ x ∷ xs)
 
+  -- k is below the first key
   abbrev pub Next : K → List E → Type 0
   Next k [] = Unit {0}
   Next k (y ∷ ys) = o .rank k (key y) ≡ Less

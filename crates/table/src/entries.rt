@@ -21,6 +21,7 @@ use crate::moves::join_at;
 #[derive(Clone, Copy, Debug)]
 pub struct Full;
 
+// Made anew for each use of a record's entries and count.
 #[derive(Drop)]
 pub struct Table<'a, E> {
     pub entries: &'a mut [E],

@@ -7,6 +7,7 @@ ghost use Rattle.table.specs.Table.{place, has-key};
 use crate::order::TotalOrder;
 use std::cmp::Ordering;
 
+// An entry, its key, and how two entries of one key join.
 pub trait Entry: Copy {
     type Key: TotalOrder;
 
@@ -21,6 +22,7 @@ pub trait Entry: Copy {
     // The two can be joined: no sum leaves its type.
     ghost joinable: { Self → Self → Type 0 } = { λ _ _. Unit {0} };
 
+    // A joined entry lies where the first one lay.
     law keeps: { (a b : Self) → keyed (joined a b) ≡ keyed a };
 
     fn key(&self) -> Self::Key
