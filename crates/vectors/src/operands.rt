@@ -1,6 +1,5 @@
 // What calls ask of their operands: intervals that fit, and polynomials.
-ghost use mathlib.Core.Path.{_≡_};
-ghost use mathlib.Core.Bool.{true};
+ghost use Rattle.std.specs.Orderings.{Decides};
 ghost use Rattle.std.specs.shelf.Lists.{All};
 ghost use Rattle.interval.specs.Interval.{Fits};
 ghost use Rattle.polynomial.specs.Method.{Fit-term, Polynomial};
@@ -14,20 +13,20 @@ use table::TotalOrder;
 
 // The lower end is not above the upper, and both fit.
 pub fn is_fitting(i: Interval) -> bool
-    ensures test { λ r. ⌜ (r ≡ true → Fits i) ⌝ }
+    ensures value { λ r. ⌜ Decides r (Fits i) ⌝ }
 {
     i.lower <= i.upper && i.fits()
 }
 
 // At most 40 terms that ascend, none [0, 0], whose coefficients fit.
 pub fn is_polynomial(terms: &[Term]) -> bool
-    ensures test { λ r. ⌜ (r ≡ true → Polynomial (now (terms .entry))) ⌝ }
+    ensures value { λ r. ⌜ Decides r (Polynomial (now (terms .entry))) ⌝ }
 {
     terms.len() <= 40 && ascend(terms) && all_fit(terms)
 }
 
 fn ascend(terms: &[Term]) -> bool
-    ensures test { λ r. ⌜ (r ≡ true → Ascending by-degree (λ t. t .monomial) (now (terms .entry))) ⌝ }
+    ensures value { λ r. ⌜ Decides r (Ascending by-degree (λ t. t .monomial) (now (terms .entry))) ⌝ }
 {
     for i in 1..terms.len() {
         if terms[i - 1].monomial.compare(terms[i].monomial) != Ordering::Less {
@@ -38,7 +37,7 @@ fn ascend(terms: &[Term]) -> bool
 }
 
 fn all_fit(terms: &[Term]) -> bool
-    ensures test { λ r. ⌜ (r ≡ true → All Fit-term (now (terms .entry))) ⌝ }
+    ensures value { λ r. ⌜ Decides r (All Fit-term (now (terms .entry))) ⌝ }
 {
     for term in terms {
         if !is_fit_term(term) {
@@ -49,7 +48,7 @@ fn all_fit(terms: &[Term]) -> bool
 }
 
 fn is_fit_term(term: &Term) -> bool
-    ensures test { λ r. ⌜ (r ≡ true → Fit-term (now (term .entry))) ⌝ }
+    ensures value { λ r. ⌜ Decides r (Fit-term (now (term .entry))) ⌝ }
 {
     is_fitting(term.coefficient) && !term.coefficient.is_zero()
 }

@@ -1,4 +1,6 @@
 // The words of a call, and what each says.
+ghost use mathlib.Core.Path.{_≡_};
+ghost use Prim.Native.Nat.{_+_, _<_};
 ghost use Rattle.std.specs.Vec.{made};
 ghost use Rattle.interval.specs.Interval.{Fits};
 use crate::fault::Fault;
@@ -79,7 +81,9 @@ impl<'a> Words<'a> {
     }
 }
 
-fn digit_value(byte: u8) -> Result<u8, Fault> {
+fn digit_value(byte: u8) -> Result<u8, Fault>
+    ensures made { λ r. ⌜ made r (λ d. (d < 10) × (d + 48 ≡ byte)) ⌝ }
+{
     match byte {
         b'0'..=b'9' => Ok(byte - b'0'),
         _ => Err(Fault::Unreadable),
