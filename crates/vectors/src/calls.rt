@@ -1,6 +1,7 @@
 // Which words say which call of a small function.
 use crate::answer::Answer;
 use crate::fault::Fault;
+use crate::ranges::range_of;
 use crate::rows::search_row;
 use crate::words::Words;
 use batch::KindChoice;
@@ -24,6 +25,7 @@ pub fn answer(heap: Global, call: &str) -> Result<Answer, Fault> {
         "split" => split(Words::of(arguments)),
         "reach" => reach_under(Words::of(arguments)),
         "order" => order(Words::of(arguments)),
+        "ranging" => range_of(heap, arguments),
         "search" => search_row(heap, arguments),
         _ => Err(Fault::Unreadable),
     }

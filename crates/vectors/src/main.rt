@@ -3,6 +3,7 @@ mod answer; // what a call answers, and how it is written
 mod calls; // which words say which call of a small function
 mod fault; // why a line gets no answer
 mod operands; // what calls ask of their operands
+mod ranges; // a method's range of a polynomial
 mod rows; // a search in a row of keys
 mod words; // the words of a call, and what each says
 
