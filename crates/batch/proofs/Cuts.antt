@@ -24,10 +24,10 @@ use Rattle.batch.specs.Words.{Text, uncommented, onto, pieces, some}
 abbrev pub Lacks : ℕ → Text → Type 0
 Lacks c bs = (k : ℕ) → k < length bs → getD bs k 0 ≡ c → ⊥
 
-head-lacks : (c b : ℕ) (bs : Text) → Lacks c (b ∷ bs) → eqb b c ≡ false
+pub head-lacks : (c b : ℕ) (bs : Text) → Lacks c (b ∷ bs) → eqb b c ≡ false
 head-lacks c b bs h = ne-eqb b c (h 0 (omega arith))
 
-tail-lacks : (c b : ℕ) (bs : Text) → Lacks c (b ∷ bs) → Lacks c bs
+pub tail-lacks : (c b : ℕ) (bs : Text) → Lacks c (b ∷ bs) → Lacks c bs
 tail-lacks c b bs h k l e = h (suc k) (omega arith) e
 
 pub uncommented-none : (bs : Text) → Lacks 35 bs → uncommented bs ≡ bs

@@ -2,7 +2,7 @@
 use mathlib.Core.Path.{_≡_, refl, sym, ap, _∙_}
 use Rattle.std.specs.declared.result.Result.{Result}
 use Rattle.std.specs.declared.result.Result.the-variants.{Ok, Err}
-use Rattle.std.specs.Results.{ErrBy}
+use Rattle.std.specs.Results.{Cases, ErrBy}
 use Rattle.std.proofs.shelf.Results.{err-from-errBy}
 use Rattle.interval.specs.Reason.{and-then}
 use Rattle.batch.specs.declared.fault.Fault.{Fault}
@@ -18,3 +18,8 @@ ends view r e x f h p =
 -- the way on
 pub goes-on : {B D : Type 0} (d : D) (x : Result D Objection) (f : D → Result B Objection) → Ok d ≡ x → f d ≡ and-then x f
 goes-on d x f p = ap (λ y. and-then y f) p
+
+-- what is said of an answer alone holds there
+pub unanswered : {A E : Type 0} (P : A → Type 0) (Q : E → Type 0) (r : Result A E) → ErrBy r Q → Cases r P (λ _. Unit {0})
+unanswered P Q (Ok x) h = absurd h
+unanswered P Q (Err e) h = tt

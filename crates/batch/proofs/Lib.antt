@@ -2,5 +2,14 @@ mod Cuts
 mod Wording
 mod Spelling
 mod Exits
+mod Exactness
+mod Figures
+mod Picks
+mod Canonical
+mod Fronts
+mod Reductions
+mod Places
+mod Factoring
+mod Taking
 mod Numerals
 mod Shapes

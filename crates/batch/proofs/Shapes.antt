@@ -20,7 +20,7 @@ use Rattle.batch.specs.declared.fault.Mistake.the-variants.{UnknownStatement, 
 use Rattle.batch.specs.declared.words.Word.{Word}
 use Rattle.batch.specs.Faults.{mistaken}
 use Rattle.batch.specs.Words.{Text, Token, token}
-use Rattle.batch.specs.Statements.{sole-of, input-from, input-said, term-from, term-said, range-said, range, nothing, input, number-said, is-name, name-goes-on, said-from, said-by}
+use Rattle.batch.specs.Statements.{sole-of, input-from, input-said, term-from, term-said, range-said, range-asked, silence, input-is, number-said, is-name, name-goes-on, said-from, said-by}
 
 -- all but the first, as a slice pattern lends them
 pub rest-of : {A : Type 0} (xs : List A) → take (length xs - 1) (drop 1 xs) ≡ drop 1 xs
@@ -74,7 +74,7 @@ pub range-some : (ws : List Word) → 0 < length ws → range-said (map token ws
 range-some [] h = absurd (omega arith)
 range-some (w ∷ ws) h = refl
 
-pub range-none : (ws : List Word) → length ws ≡ 0 → range-said (map token ws) ≡ Ok range
+pub range-none : (ws : List Word) → length ws ≡ 0 → range-said (map token ws) ≡ Ok range-asked
 range-none [] h = refl
 range-none (w ∷ ws) h = absurd (omega arith)
 
@@ -82,7 +82,7 @@ pub said-some : (ws : List Word) → 0 < length ws → said-by (map token ws) �
 said-some [] h = absurd (omega arith)
 said-some (w ∷ ws) h = ap (λ vs. said-from (token w) (map token vs)) (sym (rest-of (w ∷ ws)))
 
-pub said-none : (ws : List Word) → length ws ≡ 0 → said-by (map token ws) ≡ Ok nothing
+pub said-none : (ws : List Word) → length ws ≡ 0 → said-by (map token ws) ≡ Ok silence
 said-none [] h = refl
 said-none (w ∷ ws) h = absurd (omega arith)
 
@@ -112,5 +112,5 @@ name-some (c ∷ bs) h = ap (λ cs. asciiLetter c && name-goes-on cs) (sym (rest
 pub input-unnamed : (n l h : Token) → is-name (n .text) ≡ false → Err (mistaken NotAName (n .text)) ≡ input-from n l h
 input-unnamed n l h e = rw e
 
-pub input-named : (n l h : Token) → is-name (n .text) ≡ true → and-then (number-said l) (λ low. and-then (number-said h) (λ high. Ok (input (n .text) low high))) ≡ input-from n l h
+pub input-named : (n l h : Token) → is-name (n .text) ≡ true → and-then (number-said l) (λ low. and-then (number-said h) (λ high. Ok (input-is (n .text) low high))) ≡ input-from n l h
 input-named n l h e = rw e

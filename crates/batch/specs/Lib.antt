@@ -3,3 +3,9 @@ pub mod Words
 pub mod Methods
 pub mod Faults
 pub mod Statements
+pub mod Decimals
+pub mod Drafts
+pub mod DraftTerms
+pub mod Inputs
+pub mod Factors
+pub mod Desks

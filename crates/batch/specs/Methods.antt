@@ -7,10 +7,18 @@ use lib.Chars.{codes}
 use Rattle.std.specs.declared.option.Option.{Option}
 use Rattle.std.specs.declared.option.Option.the-variants.{Some, None}
 use Rattle.std.specs.shelf.Text.{sameBytes}
+use Rattle.polynomial.specs.Method.{MethodMeaning}
+use Rattle.ranging.specs.NamedMethods.{plain-method, quadratic-method, meet-method}
 use Rattle.batch.specs.declared.method.MethodChoice.{MethodChoice}
 use Rattle.batch.specs.declared.method.MethodChoice.the-variants.{Plain, Quadratic, Both}
 use Rattle.batch.specs.declared.method.Scan.{Scan}
 use Rattle.batch.specs.Words.{Text, Token}
+
+-- what a choice means
+abbrev pub chosen-method : MethodChoice → MethodMeaning
+chosen-method Plain = plain-method
+chosen-method Quadratic = quadratic-method
+chosen-method Both = meet-method plain-method quadratic-method
 
 -- the leaves of two trees of meets together
 abbrev pub both : MethodChoice → MethodChoice → MethodChoice

@@ -46,22 +46,22 @@ whole-number t =
 
 -- a statement, with the text of its words
 pub data Said : Type 0 where
-  nothing : Said
-  kind : KindChoice → Said
-  method : MethodChoice → Said
-  order : ℕ → Said
-  input : Text → Float → Float → Said
-  term : Float → List Token → Said
-  range : Said
+  silence : Said
+  kind-is : KindChoice → Said
+  method-is : MethodChoice → Said
+  order-is : ℕ → Said
+  input-is : Text → Float → Float → Said
+  term-is : Float → List Token → Said
+  range-asked : Said
 
 abbrev pub said : Statement → Said
-said Nothing = nothing
-said (Kind k) = kind k
-said (Method m) = method m
-said (Order n) = order n
-said (Input name low high) = input (name .now) low high
-said (Term c factors) = term c (map token (factors .now))
-said Range = range
+said Nothing = silence
+said (Kind k) = kind-is k
+said (Method m) = method-is m
+said (Order n) = order-is n
+said (Input name low high) = input-is (name .now) low high
+said (Term c factors) = term-is c (map token (factors .now))
+said Range = range-asked
 
 -- a result, with the text of its words
 abbrev pub read-as : {A B : Type 0} → (A → B) → Result A Fault → Result B Objection
@@ -84,19 +84,19 @@ sole-of m (w ∷ v ∷ ws) = Err (mistaken m [])
 
 -- what follows `kind`, `method`, `order`, `input`, `term` and `range`
 abbrev pub kind-said : List Token → Result Said Objection
-kind-said ws = and-then (sole-of KindForm ws) (λ w. and-then (or-else (kind-named (w .text)) (mistaken KindForm [])) (λ k. Ok (kind k)))
+kind-said ws = and-then (sole-of KindForm ws) (λ w. and-then (or-else (kind-named (w .text)) (mistaken KindForm [])) (λ k. Ok (kind-is k)))
 
 abbrev pub method-said : List Token → Result Said Objection
-method-said ws = and-then (or-else (spelled-by ws) (mistaken MethodForm [])) (λ m. Ok (method m))
+method-said ws = and-then (or-else (spelled-by ws) (mistaken MethodForm [])) (λ m. Ok (method-is m))
 
 abbrev pub order-said : List Token → Result Said Objection
-order-said ws = and-then (sole-of OrderForm ws) (λ w. and-then (or-else (whole-number (w .text)) (mistaken OrderForm [])) (λ n. Ok (order n)))
+order-said ws = and-then (sole-of OrderForm ws) (λ w. and-then (or-else (whole-number (w .text)) (mistaken OrderForm [])) (λ n. Ok (order-is n)))
 
 abbrev pub name-said : Token → Result Text Objection
 name-said w = cond (is-name (w .text)) (Ok (w .text)) (Err (mistaken NotAName (w .text)))
 
 abbrev pub input-from : Token → Token → Token → Result Said Objection
-input-from n l h = and-then (name-said n) (λ name. and-then (number-said l) (λ low. and-then (number-said h) (λ high. Ok (input name low high))))
+input-from n l h = and-then (name-said n) (λ name. and-then (number-said l) (λ low. and-then (number-said h) (λ high. Ok (input-is name low high))))
 
 abbrev pub input-said : List Token → Result Said Objection
 input-said [] = Err (mistaken InputForm [])
@@ -106,14 +106,14 @@ input-said (n ∷ l ∷ h ∷ []) = input-from n l h
 input-said (n ∷ l ∷ h ∷ w ∷ ws) = Err (mistaken InputForm [])
 
 abbrev pub term-from : Token → List Token → Result Said Objection
-term-from w ws = and-then (number-said w) (λ c. Ok (term c ws))
+term-from w ws = and-then (number-said w) (λ c. Ok (term-is c ws))
 
 abbrev pub term-said : List Token → Result Said Objection
 term-said [] = Err (mistaken TermForm [])
 term-said (w ∷ ws) = term-from w ws
 
 abbrev pub range-said : List Token → Result Said Objection
-range-said [] = Ok range
+range-said [] = Ok range-asked
 range-said (w ∷ ws) = Err (mistaken RangeForm [])
 
 -- what the first word and those after it say
@@ -129,5 +129,5 @@ said-from w ws =
 
 -- what the words of a line say
 abbrev pub said-by : List Token → Result Said Objection
-said-by [] = Ok nothing
+said-by [] = Ok silence
 said-by (w ∷ ws) = said-from w ws

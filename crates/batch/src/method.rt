@@ -4,8 +4,17 @@ ghost use mathlib.Core.List.{map};
 ghost use Prim.Native.Nat.{_+_, _<_, _≤_, _^_};
 ghost use Rattle.std.specs.Options.{Cases};
 ghost use Rattle.batch.specs.Words.{token};
-ghost use Rattle.batch.specs.Methods.{with-leaf, advanced, spelled-by};
+ghost use Rattle.batch.specs.Methods.{chosen-method, with-leaf, advanced, spelled-by};
 use crate::words::Word;
+use interval::Interval;
+use polynomial::Term;
+use ranging::Meet;
+use ranging::Plain;
+use ranging::Quadratic;
+use ranging::Ranging;
+use ranging::RangingMeet;
+use ranging::RangingPlain;
+use ranging::RangingQuadratic;
 
 // A meet with itself changes nothing, so every tree of meets over plain and quadratic is one of these.
 #[derive(Clone, Copy, Debug, PartialEq, Eq)]
@@ -13,6 +22,21 @@ pub enum MethodChoice {
     Plain,
     Quadratic,
     Both,
+}
+
+pub impl Ranging for MethodChoice as MethodChosen {
+    ghost meaning = { chosen-method };
+
+    fn range(&self, terms: &[Term]) -> Interval {
+        match self {
+            MethodChoice::Plain => Plain.range(terms),
+            MethodChoice::Quadratic => Quadratic.range(terms),
+            MethodChoice::Both => Meet {
+                first: Plain,
+                second: Quadratic,
+            }.range(terms),
+        }
+    }
 }
 
 // Words read in prefix order: the leaves so far, and how many methods are still wanted.

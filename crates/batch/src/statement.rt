@@ -10,7 +10,7 @@ use crate::method::MethodChoice;
 use crate::words::Word;
 
 #[derive(Clone, Copy)]
-pub enum Statement<'a> {
+pub enum Statement<'w, 'a> {
     // a line with no word
     Nothing,
     Kind(KindChoice),
@@ -23,7 +23,7 @@ pub enum Statement<'a> {
     },
     Term {
         coefficient: f64,
-        factors: &'a [Word<'a>],
+        factors: &'w [Word<'a>],
     },
     Range,
 }
@@ -73,7 +73,7 @@ fn number<'a>(word: &Word<'a>) -> Result<f64, Fault<'a>>
 }
 
 // The one word, where there is just one.
-fn sole<'a>(words: &'a [Word<'a>], mistake: Mistake) -> Result<Word<'a>, Fault<'a>>
+fn sole<'a>(words: &[Word<'a>], mistake: Mistake) -> Result<Word<'a>, Fault<'a>>
     ensures value { λ r. ⌜ read-as token r ≡ sole-of mistake (map token (now (words .entry))) ⌝ }
 {
     let [word] = words else {
@@ -82,7 +82,7 @@ fn sole<'a>(words: &'a [Word<'a>], mistake: Mistake) -> Result<Word<'a>, Fault<'
     Ok(*word)
 }
 
-fn kind<'a>(words: &'a [Word<'a>]) -> Result<Statement<'a>, Fault<'a>>
+fn kind<'w, 'a>(words: &'w [Word<'a>]) -> Result<Statement<'w, 'a>, Fault<'a>>
     ensures value { λ r. ⌜ read-as said r ≡ kind-said (map token (now (words .entry))) ⌝ }
 {
     let word = sole(words, Mistake::KindForm)?;
@@ -92,7 +92,7 @@ fn kind<'a>(words: &'a [Word<'a>]) -> Result<Statement<'a>, Fault<'a>>
     }
 }
 
-fn method<'a>(words: &'a [Word<'a>]) -> Result<Statement<'a>, Fault<'a>>
+fn method<'w, 'a>(words: &'w [Word<'a>]) -> Result<Statement<'w, 'a>, Fault<'a>>
     ensures value { λ r. ⌜ read-as said r ≡ method-said (map token (now (words .entry))) ⌝ }
 {
     match MethodChoice::spelled(words) {
@@ -101,7 +101,7 @@ fn method<'a>(words: &'a [Word<'a>]) -> Result<Statement<'a>, Fault<'a>>
     }
 }
 
-fn order<'a>(words: &'a [Word<'a>]) -> Result<Statement<'a>, Fault<'a>>
+fn order<'w, 'a>(words: &'w [Word<'a>]) -> Result<Statement<'w, 'a>, Fault<'a>>
     ensures value { λ r. ⌜ read-as said r ≡ order-said (map token (now (words .entry))) ⌝ }
 {
     let word = sole(words, Mistake::OrderForm)?;
@@ -111,7 +111,7 @@ fn order<'a>(words: &'a [Word<'a>]) -> Result<Statement<'a>, Fault<'a>>
     }
 }
 
-fn input<'a>(words: &'a [Word<'a>]) -> Result<Statement<'a>, Fault<'a>>
+fn input<'w, 'a>(words: &'w [Word<'a>]) -> Result<Statement<'w, 'a>, Fault<'a>>
     ensures value { λ r. ⌜ read-as said r ≡ input-said (map token (now (words .entry))) ⌝ }
 {
     let [name, low, high] = words else {
@@ -126,7 +126,7 @@ fn input<'a>(words: &'a [Word<'a>]) -> Result<Statement<'a>, Fault<'a>>
     Ok(Statement::Input { name, low, high })
 }
 
-fn term<'a>(words: &'a [Word<'a>]) -> Result<Statement<'a>, Fault<'a>>
+fn term<'w, 'a>(words: &'w [Word<'a>]) -> Result<Statement<'w, 'a>, Fault<'a>>
     ensures value { λ r. ⌜ read-as said r ≡ term-said (map token (now (words .entry))) ⌝ }
 {
     let [first, factors @ ..] = words else {
@@ -139,7 +139,7 @@ fn term<'a>(words: &'a [Word<'a>]) -> Result<Statement<'a>, Fault<'a>>
     })
 }
 
-fn range<'a>(words: &'a [Word<'a>]) -> Result<Statement<'a>, Fault<'a>>
+fn range<'w, 'a>(words: &'w [Word<'a>]) -> Result<Statement<'w, 'a>, Fault<'a>>
     ensures value { λ r. ⌜ read-as said r ≡ range-said (map token (now (words .entry))) ⌝ }
 {
     if words.is_empty() {
@@ -150,7 +150,7 @@ fn range<'a>(words: &'a [Word<'a>]) -> Result<Statement<'a>, Fault<'a>>
 }
 
 // The first word says which statement it is.
-pub fn read_statement<'a>(words: &'a [Word<'a>]) -> Result<Statement<'a>, Fault<'a>>
+pub fn read_statement<'w, 'a>(words: &'w [Word<'a>]) -> Result<Statement<'w, 'a>, Fault<'a>>
     ensures value { λ r. ⌜ read-as said r ≡ said-by (map token (now (words .entry))) ⌝ }
 {
     let [first, rest @ ..] = words else {
