@@ -1,0 +1,5 @@
+pub mod Token
+pub mod Admitted
+pub mod Written
+pub mod Meaning
+pub mod Laws

@@ -1,0 +1,9 @@
+pub mod Box
+pub mod Model
+pub mod Form
+pub mod Arithmetic
+pub mod Product
+pub mod Keeping
+pub mod Selection
+pub mod Enclosure
+pub mod Exactness
