@@ -1,0 +1,17 @@
+mod Results
+mod Locality
+mod Following
+mod Reworking
+mod Ends
+mod Accepting
+mod Invariant
+mod Narrowed
+mod Kept
+mod Reaching
+mod TermCounts
+mod PairCounts
+mod NewSheet
+mod Told
+mod Sounding
+mod WholeLines
+mod Promises

@@ -1,0 +1,13 @@
+pub mod Box
+pub mod State
+pub mod Opening
+pub mod Posting
+pub mod Narrowing
+pub mod Striking
+pub mod Reading
+pub mod Turn
+pub mod Reached
+pub mod Standing
+pub mod Promise
+pub mod Consistency
+pub mod Premises
