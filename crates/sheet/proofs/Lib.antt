@@ -8,10 +8,14 @@ mod Invariant
 mod Narrowed
 mod Kept
 mod Reaching
+mod Consistent
 mod TermCounts
 mod PairCounts
 mod NewSheet
 mod Told
+mod Operands
+mod SoundWork
+mod WholeWork
 mod Sounding
 mod WholeLines
 mod Promises

@@ -33,7 +33,7 @@ use Rattle.sheet.specs.State.{Line, line, State, texts, workeds, line-at, mode
 use Rattle.sheet.specs.Opening.{Opening}
 use Rattle.sheet.specs.Standing.{Standing}
 use Rattle.sheet.specs.Promise.{In-bounds}
-use Rattle.sheet.specs.Premises.{Sound-line, Sound-lines, Work-sound}
+use Rattle.sheet.specs.WorkLaws.{Sound-line, Sound-lines, Work-sound}
 use Rattle.sheet.proofs.Following.{Follow}
 use Rattle.sheet.proofs.Reworking.{entries, by-line-entries}
 use Rattle.sheet.proofs.Invariant.{Invariant}

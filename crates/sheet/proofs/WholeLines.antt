@@ -29,7 +29,7 @@ use Rattle.sheet.specs.State.{Line, line, State, texts, workeds, line-at, mode
 use Rattle.sheet.specs.Opening.{Opening}
 use Rattle.sheet.specs.Standing.{Standing}
 use Rattle.sheet.specs.Promise.{Whole-token, Exact-model}
-use Rattle.sheet.specs.Premises.{Work-sound, Whole-line, Work-whole}
+use Rattle.sheet.specs.WorkLaws.{Work-sound, Whole-line, Work-whole}
 use Rattle.sheet.proofs.Following.{Follow}
 use Rattle.sheet.proofs.Reworking.{entries, by-line-entries}
 use Rattle.sheet.proofs.Invariant.{Invariant}

@@ -14,7 +14,7 @@ use Rattle.sheet.specs.State.{State, workeds}
 use Rattle.sheet.specs.Opening.{Opening}
 use Rattle.sheet.specs.Reached.{Log, Reached}
 use Rattle.sheet.specs.Standing.{standing}
-use Rattle.sheet.specs.Promise.{standing-box, Stands-there, Same-as-new, Narrowings-true}
+use Rattle.sheet.specs.Promise.{standing-box}
 
 module _ (k : KindMeaning) (m : MethodMeaning) (order : ℕ) (box : List Variable) where
   -- what each text gives, worked from the order, the box and what the texts before it gave
@@ -26,9 +26,3 @@ module _ (k : KindMeaning) (m : MethodMeaning) (order : ℕ) (box : List Variabl
 abbrev pub Consistent : Type 0
 Consistent = (k : KindMeaning) (m : MethodMeaning) (given : Opening) (log : Log) (s : State) → Reached k m given log s →
     built k m (given .order) (standing-box k (standing given log)) [] (standing given log .texts) ≡ Ok (workeds (s .lines))
-
--- what stands is there, a new sheet comes to the same, and narrowings told the truth
-abbrev pub Stands-consistently : Type 0
-Stands-consistently = (k : KindMeaning) (m : MethodMeaning) (given : Opening) (log : Log) (s : State) → Reached k m given log s →
-    let what = standing given log in
-    Stands-there k what s × Same-as-new k m (given .order) what s × Narrowings-true k m given log

@@ -10,4 +10,4 @@ pub mod Reached
 pub mod Standing
 pub mod Promise
 pub mod Consistency
-pub mod Premises
+pub mod WorkLaws

@@ -1,4 +1,5 @@
--- THE PROMISE of a sheet, in five parts, over every kind, method, opening and log of turns. Assumes nothing.
+-- THE PROMISE of a sheet, in five parts: for every kind of coefficient, every ranging method, every accepted opening and every log of
+-- turns after it. Assumes nothing.
 use mathlib.Core.Path.{_≡_}
 use mathlib.Core.Bool.{Bool, true, false, cond}
 use mathlib.Core.List.{List, [], _∷_, _++_, map}
@@ -30,7 +31,7 @@ use Rattle.sheet.specs.Turn.{Turn, Post, Narrow, Narrowed, run, answers}
 use Rattle.sheet.specs.Reached.{Log, event, Reached}
 use Rattle.sheet.specs.Standing.{Standing, standing}
 
--- the standing box: made at the kind's scale from the ends that stand
+-- the box that the standing ends make at the kind's scale
 abbrev pub standing-box : KindMeaning → Standing → List Var
 standing-box k what = box-of k (what .ends)
 

@@ -6,4 +6,5 @@ pub use account::Account;
 pub use account::AccountDebug;
 pub use laws::lines_are_consistent;
 pub use laws::logs_lead_to_sheets;
-pub use laws::promise_follows;
+pub use laws::promise_holds;
+pub use laws::work_keeps_lines_sound;

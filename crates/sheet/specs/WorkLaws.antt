@@ -1,4 +1,4 @@
--- What the work of one text keeps: the two facts that carry the promise from the lines below to the next line. Assumes nothing.
+-- What the work of one text keeps: the two laws that carry the promise from the lines below to the next line. Assumes nothing.
 use mathlib.Core.Path.{_≡_}
 use mathlib.Core.Bool.{true}
 use mathlib.Core.List.{List, []}
