@@ -19,3 +19,5 @@ mod WholeWork
 mod Sounding
 mod WholeLines
 mod Promises
+mod Computing
+mod FiguresStand

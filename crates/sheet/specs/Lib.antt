@@ -11,3 +11,5 @@ pub mod Standing
 pub mod Promise
 pub mod Consistency
 pub mod WorkLaws
+pub mod Figures
+pub mod LargerFigures

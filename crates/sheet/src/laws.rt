@@ -3,6 +3,8 @@ ghost use Rattle.sheet.specs.Reached.{Runs-reach, Reached-once};
 ghost use Rattle.sheet.specs.Promise.{Promised};
 ghost use Rattle.sheet.specs.Consistency.{Consistent};
 ghost use Rattle.sheet.specs.WorkLaws.{Work-sound, Work-whole};
+ghost use Rattle.sheet.specs.Figures.{Figures-stand};
+ghost use Rattle.sheet.specs.LargerFigures.{Larger-figures-stand};
 
 // A list of turns after an accepted opening reaches the sheet after them, and a log leads to one sheet.
 pub fn logs_lead_to_sheets()
@@ -22,4 +24,9 @@ pub fn work_keeps_lines_sound()
 // Every sheet that an opening and turns lead to keeps the promise, whatever the kind and the method.
 pub fn promise_holds()
     ensures laws { λ _. ⌜ Promised ⌝ }
+{}
+
+// The worked figures are what the definitions compute.
+pub fn figures_stand()
+    ensures laws { λ _. ⌜ Figures-stand × Larger-figures-stand ⌝ }
 {}
