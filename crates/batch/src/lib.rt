@@ -1,4 +1,6 @@
 // The batch language: which words say which statement, the desk that takes statements, and how answers are written.
+#![tactic(auto)]
+
 mod decimal; // exact decimal numbers of units
 mod desk; // the desk that takes statements
 mod draft; // a polynomial as its terms come in

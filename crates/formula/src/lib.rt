@@ -1,4 +1,6 @@
 // Formulas as texts of tokens in postfix order: their bytes, and what they mean.
+#![tactic(auto)]
+
 mod admission; // whether a token may be run
 mod fault; // why a formula is refused, and where
 mod inputs; // what a formula is given

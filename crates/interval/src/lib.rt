@@ -1,4 +1,6 @@
 // Intervals of marks, hulls of binary64 values, variables, the kinds of coefficient, and the reasons of refusals.
+#![tactic(auto)]
+
 mod arithmetic; // sums, products and reaches of intervals
 mod comparing; // the order of two binary64 values
 mod hulls; // the hull of a binary64 value

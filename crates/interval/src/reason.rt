@@ -1,5 +1,5 @@
 // Why something is refused, each reason with its number.
-ghost use Rattle.std.specs.Prelude.{◌≡◌, Some, Decides};
+ghost use Rattle.std.specs.Prelude.{◌≡◌, ◌==◌, Some, Decides};
 ghost use Rattle.interval.specs.Reason.{number, words};
 ghost use Rattle.std.specs.Cmp.Rules.{comparing};
 ghost use Rattle.std.proofs.Common.{rules};
@@ -126,11 +126,14 @@ impl Reason {
 
 // Two reasons are equal where their numbers are.
 impl PartialEq for Reason {
-    ghost equals = { λ x y r. Decides r (x ≡ y) };
+    ghost eq = { λ x y. number x == number y };
 
     ghost laws = { Keys.partial_equiv_from_equiv (Prim.search (comparing, rules)) };
 
-    fn eq(&self, other: &Reason) -> bool {
+    fn eq(&self, other: &Reason) -> bool
+        ensures value { result ≡ (number self.now == number other.now) }
+        ensures decides { Decides result (self.now ≡ other.now) }
+    {
         self.number() == other.number()
     }
 }

@@ -1,4 +1,6 @@
 // Polynomials in unit coordinates: terms, reach, and what a range of them means.
+#![tactic(auto)]
+
 mod laws; // what values, reaches and ranges keep
 mod lookup; // the coefficient at a monomial
 mod reaching; // what an interval times a monomial reaches

@@ -1,4 +1,6 @@
 // Ranging methods: how a polynomial gets its range.
+#![tactic(auto)]
+
 mod joint; // the joint range of a linear and a square term
 mod meet; // what two methods have in common
 mod method; // what a method is

@@ -1,4 +1,6 @@
 // The sheet: a box, lines and accounts, changed by turns.
+#![tactic(auto)]
+
 mod account; // the pairs of an office
 mod adding; // adding a line
 mod charging; // charging an office

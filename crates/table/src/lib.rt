@@ -1,4 +1,6 @@
 // Ascending tables: keys with a total order, one search, one entry a key.
+#![tactic(auto)]
+
 mod entries; // the one table over a lent slice
 mod exponents; // monomials by value
 mod laws; // the laws, carried by functions

@@ -1,4 +1,6 @@
 // Taylor models: their records, their arithmetic, and what it keeps.
+#![tactic(auto)]
+
 mod constants; // constants and variables
 mod gathering; // the pairs of a product, as they come
 mod laws; // what the arithmetic keeps, as theorems

@@ -1,4 +1,6 @@
 // Answers vectors: each line that ends in `= ?` is written with its answer in that place, any other line as it is.
+#![tactic(auto)]
+
 mod answer; // what a call answers, and how it is written
 mod calls; // which words say which call of a small function
 mod fault; // why a line gets no answer

@@ -1,4 +1,6 @@
 // Reads a batch from a file or standard input, and prints its box and the ranges of its polynomials.
+#![tactic(auto)]
+
 mod report; // what is printed
 
 use anyhow::anyhow;

@@ -4,8 +4,8 @@ use Rattle.std.proofs.lemmas.Int.{to_z-of_z}
 use Rattle.interval.proofs.Sizes.{bounded_product}
 use Rattle.interval.proofs.arithmetic.product.Goals as goal
 
-pub overflow-mul-result : goal.overflow-mul-result
-overflow-mul-result c = let b = bounded_product c.requires.0 c.requires.1 in let f = c.ranges.a in let g = c.ranges.b in rw (to_z-of_z w64 c.args.a f, to_z-of_z w64 c.args.b g) (omega (arith, ints))
+pub overflow_mul-result : goal.overflow_mul-result
+overflow_mul-result c = let b = bounded_product c.requires.0 c.requires.1 in let f = c.ranges.a in let g = c.ranges.b in rw (to_z-of_z w64 c.args.a f, to_z-of_z w64 c.args.b g) (omega (arith, ints))
 
 pub returns : goal.returns
 returns c =

@@ -16,8 +16,8 @@ product-ul-requires c = (end (upper_bounded c.requires.0), end (lower_bounded c.
 pub product-uu-requires : goal.product-uu-requires
 product-uu-requires c = (end (upper_bounded c.requires.0), end (upper_bounded c.requires.1))
 
-pub rounded-out-requires : goal.rounded-out-requires
-rounded-out-requires c =
+pub rounded_out-requires : goal.rounded_out-requires
+rounded_out-requires c =
     let p = c.product-ll.ensures.bound in
     let q = c.product-lu.ensures.bound in
     let r = c.product-ul.ensures.bound in
@@ -42,5 +42,5 @@ returns c =
     let l = least_is p q r s c.min.ensures.value c.min-2.ensures.value c.min-least.ensures.value in
     let g = greatest_is p q r s c.max.ensures.value c.max-2.ensures.value c.max-greatest.ensures.value in
     record {
-      value = rounded_is (per_unit c.args.scale) l.1 g.1 (l.0 ∙ ap₂ int_min (ap₂ int_min ll lu) (ap₂ int_min ul uu)) (g.0 ∙ ap₂ int_max (ap₂ int_max ll lu) (ap₂ int_max ul uu)) c.rounded-out.ensures.value;
+      value = rounded_is (per_unit c.args.scale) l.1 g.1 (l.0 ∙ ap₂ int_min (ap₂ int_min ll lu) (ap₂ int_min ul uu)) (g.0 ∙ ap₂ int_max (ap₂ int_max ll lu) (ap₂ int_max ul uu)) c.rounded_out.ensures.value;
     }

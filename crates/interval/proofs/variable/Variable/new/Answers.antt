@@ -8,15 +8,15 @@ use Rattle.interval.specs.Variable.{centred}
 use Rattle.interval.proofs.GivenEnds.{lower_unfit, upper_unfit, fitting, accepted, variable_sound}
 use Rattle.interval.proofs.variable.Variable.new.Goals as goal
 
-pub returns-in-default : goal.returns-in-default
-returns-in-default c = record {
-  value = lower_unfit (per_unit c.args.scale) c.args.lower c.args.upper (sym c.if-not-is-finite.ensures.value) (sym c.if-not-is-finite-2.ensures.value) c.if-lower-upper.false c.in-default.ensures.value;
+pub returns-in_default : goal.returns-in_default
+returns-in_default c = record {
+  value = lower_unfit (per_unit c.args.scale) c.args.lower c.args.upper (sym c.if-not-is_finite.ensures.value) (sym c.if-not-is_finite-2.ensures.value) c.if-lower-upper.false c.in_default.ensures.value;
   laws = tt;
 }
 
-pub returns-in-default-hull : goal.returns-in-default-hull
-returns-in-default-hull c = record {
-  value = upper_unfit (per_unit c.args.scale) c.args.lower c.args.upper (sym c.if-not-is-finite.ensures.value) (sym c.if-not-is-finite-2.ensures.value) c.if-lower-upper.false c.in-default-hull.ensures.value;
+pub returns-in_default-hull : goal.returns-in_default-hull
+returns-in_default-hull c = record {
+  value = upper_unfit (per_unit c.args.scale) c.args.lower c.args.upper (sym c.if-not-is_finite.ensures.value) (sym c.if-not-is_finite-2.ensures.value) c.if-lower-upper.false c.in_default-hull.ensures.value;
   laws = tt;
 }
 
@@ -31,15 +31,15 @@ centred-requires c =
     let f : SFits w64 i.lower = search rules in
     let g : SFits w64 j.upper = search rules in
     subst Fits (sym (passed i j f g))
-    (fitting (per_unit c.args.scale) c.args.lower c.args.upper (sym c.if-not-is-finite.ensures.value) (sym c.if-not-is-finite-2.ensures.value) c.if-lower-upper.false i j c.in-Some.ensures.value c.in-Some-hull.ensures.value)
+    (fitting (per_unit c.args.scale) c.args.lower c.args.upper (sym c.if-not-is_finite.ensures.value) (sym c.if-not-is_finite-2.ensures.value) c.if-lower-upper.false i j c.in-Some.ensures.value c.in-Some-hull.ensures.value)
 
 pub returns : goal.returns
 returns c =
     let S = per_unit c.args.scale in
     let x = c.args.lower in
     let y = c.args.upper in
-    let p = sym c.if-not-is-finite.ensures.value in
-    let q = sym c.if-not-is-finite-2.ensures.value in
+    let p = sym c.if-not-is_finite.ensures.value in
+    let q = sym c.if-not-is_finite-2.ensures.value in
     let h = c.if-lower-upper.false in
     let i = c.in-Some.a in
     let j = c.in-Some-hull.b in
