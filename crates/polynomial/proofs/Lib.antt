@@ -10,6 +10,5 @@ pub mod Pairs
 pub mod Regroup
 pub mod QuadraticLaws
 pub mod Values
-pub mod Equality
 pub mod Coefficients
 mod Fitting

@@ -3,9 +3,9 @@ use Rattle.std.specs.Prelude.{◌≡◌, ℕ, List}
 use Rattle.std.specs.declared.cmp.Ordering.TheVariants.{Less, Equal, Greater}
 use Rattle.std.specs.declared.cmp.Ordering.{Ordering}
 use Rattle.std.proofs.Common.{sym, ap, true≢false}
-use Rattle.std.specs.declared.cmp.Reverse.{Reverse}
 use Rattle.std.specs.Ordering.{ordering_reverse, ordering_then, is_lt, is_gt}
-use Rattle.std.specs.Cmp.{nat_cmp_total, both-flip, both-trans, on_total, back_total}
+use Rattle.std.specs.Cmp.{IsTotalOrder, nat_cmp_total, on_total, back_total}
+use Rattle.std.proofs.lemmas.Cmp.{then_total}
 use Rattle.std.specs.Cmp.Lexicographic.{slice_cmp, lists_total}
 use Rattle.std.proofs.lemmas.Map.Lookups.{exact_unsigned, exact_bytes}
 use Rattle.table.specs.Monomial.{Monomial, degree}
@@ -26,9 +26,6 @@ by_number = record { rank = StdOrdering.nat_cmp; flip = nat_cmp_total.antisymm; 
 abbrev pub rank_monomials : Monomial → Monomial → Ordering
 rank_monomials a b = ordering_then (StdOrdering.nat_cmp (degree a) (degree b)) (slice_cmp StdOrdering.nat_cmp b a)
 
-abbrev degree_then : Monomial → ℕ × Reverse (List ℕ)
-degree_then a = (degree a, record { 0 = a })
-
 second_equal : (k m : Ordering) → ordering_then k m ≡ Equal → m ≡ Equal
 second_equal Less m e = absurd (true≢false (ap is_lt e))
 second_equal Equal m e = e
@@ -38,10 +35,8 @@ pub monomials_exact : (x y : Monomial) → rank_monomials x y ≡ Equal → x �
 monomials_exact x y e = sym (exact_bytes y x (second_equal (StdOrdering.nat_cmp (degree x) (degree y)) (slice_cmp StdOrdering.nat_cmp y x) e))
 
 -- that is a total order
+pub by_degree_total : IsTotalOrder rank_monomials
+by_degree_total = then_total (on_total degree nat_cmp_total) (back_total (lists_total nat_cmp_total))
+
 abbrev pub by_degree : Order Monomial
-by_degree = record {
-  rank = rank_monomials;
-  flip = λ x y. both-flip nat_cmp_total (on_total (λ x. x.0) (back_total (lists_total nat_cmp_total))) (degree_then x) (degree_then y);
-  trans = λ x y z. both-trans nat_cmp_total (on_total (λ x. x.0) (back_total (lists_total nat_cmp_total))) (degree_then x) (degree_then y) (degree_then z);
-  exact = monomials_exact;
-}
+by_degree = record { rank = rank_monomials; flip = by_degree_total.antisymm; trans = by_degree_total.trans; exact = monomials_exact }

@@ -22,8 +22,8 @@ pub struct Table<'a, E> {
 impl<E: Entry> Table<'_, E> {
     pub fn find(&self, key: E::Key) -> Found
         requires room { self.now.count ≤ length (slice_of self.now) }
-        ensures place { result.place ≡ place E.Key.TotalOrder.order keyed (in_use self.now) key }
-        ensures found { result.found ≡ has_key E.Key.TotalOrder.order keyed (in_use self.now) key }
+        ensures place { result.place ≡ place E.Key.TotalOrder.order E.keyed (in_use self.now) key }
+        ensures found { result.found ≡ has_key E.Key.TotalOrder.order E.keyed (in_use self.now) key }
         ensures bound { result.place ≤ self.now.count }
         ensures within { result.found ≡ true → result.place < self.now.count }
     {
@@ -33,10 +33,10 @@ impl<E: Entry> Table<'_, E> {
     // Joins the entry of the same key, or takes its place between its neighbours.
     pub fn enter(&mut self, entry: E) -> Result<(), Full>
         requires room { self.old.count ≤ length (slice_of self.old) }
-        requires joins { All (λ x. joinable x entry) (in_use self.old) }
-        ensures answer { is_ok result ≡ nat_le (length (entered E.Key.TotalOrder.order keyed joined (in_use self.old) entry)) (length (slice_of self.old)) }
-        ensures after { slice_of self.new ≡ (if is_ok result then over (entered E.Key.TotalOrder.order keyed joined (in_use self.old) entry) (slice_of self.old) else slice_of self.old) }
-        ensures count { self.new.count ≡ (if is_ok result then length (entered E.Key.TotalOrder.order keyed joined (in_use self.old) entry) else self.old.count) }
+        requires joins { All (λ x. E.joinable x entry) (in_use self.old) }
+        ensures answer { is_ok result ≡ nat_le (length (entered E.Key.TotalOrder.order E.keyed E.joined (in_use self.old) entry)) (length (slice_of self.old)) }
+        ensures after { slice_of self.new ≡ (if is_ok result then over (entered E.Key.TotalOrder.order E.keyed E.joined (in_use self.old) entry) (slice_of self.old) else slice_of self.old) }
+        ensures count { self.new.count ≡ (if is_ok result then length (entered E.Key.TotalOrder.order E.keyed E.joined (in_use self.old) entry) else self.old.count) }
         ensures lender { self.new.entries.ghost_name ≡ self.old.entries.ghost_name }
     {
         let at = self.find(entry.key());
@@ -53,8 +53,8 @@ impl<E: Entry> Table<'_, E> {
     // Drops the spent entries, and blanks the places left over.
     pub fn sweep(&mut self, blank: E)
         requires room { self.old.count ≤ length (slice_of self.old) }
-        ensures after { slice_of self.new ≡ over (packed self.old.count blank (filter (λ e. not (spent e)) (in_use self.old))) (slice_of self.old) }
-        ensures count { self.new.count ≡ length (filter (λ e. not (spent e)) (in_use self.old)) }
+        ensures after { slice_of self.new ≡ over (packed self.old.count blank (filter (λ e. not (E.spent e)) (in_use self.old))) (slice_of self.old) }
+        ensures count { self.new.count ≡ length (filter (λ e. not (E.spent e)) (in_use self.old)) }
         ensures lender { self.new.entries.ghost_name ≡ self.old.entries.ghost_name }
     {
         let used = self.count;

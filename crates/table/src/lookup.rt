@@ -43,8 +43,8 @@ pub struct Found {
 
 // Looks from the front, with one comparison a key.
 pub fn search<E: Entry>(entries: &[E], key: E::Key) -> Found
-    ensures place { result.place ≡ place E.Key.TotalOrder.order keyed entries.now key }
-    ensures found { result.found ≡ has_key E.Key.TotalOrder.order keyed entries.now key }
+    ensures place { result.place ≡ place E.Key.TotalOrder.order E.keyed entries.now key }
+    ensures found { result.found ≡ has_key E.Key.TotalOrder.order E.keyed entries.now key }
     ensures bound { result.place ≤ length entries.now }
     ensures within { result.found ≡ true → result.place < length entries.now }
 {

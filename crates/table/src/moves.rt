@@ -10,11 +10,11 @@ use crate::lookup::Entry;
 // Joins `entry` to the one of its key, which stands at `at`.
 pub fn join_at<E: Entry>(entries: &mut [E], count: usize, at: usize, entry: E)
     requires room { (count ≤ length entries.old) × (at < count) }
-    requires place { at ≡ place E.Key.TotalOrder.order keyed (take count entries.old) (keyed entry) }
-    requires found { has_key E.Key.TotalOrder.order keyed (take count entries.old) (keyed entry) ≡ true }
-    requires joins { All (λ x. joinable x entry) (take count entries.old) }
-    ensures after { entries.new ≡ over (entered E.Key.TotalOrder.order keyed joined (take count entries.old) entry) entries.old }
-    ensures size { length (entered E.Key.TotalOrder.order keyed joined (take count entries.old) entry) ≡ count }
+    requires place { at ≡ place E.Key.TotalOrder.order E.keyed (take count entries.old) (E.keyed entry) }
+    requires found { has_key E.Key.TotalOrder.order E.keyed (take count entries.old) (E.keyed entry) ≡ true }
+    requires joins { All (λ x. E.joinable x entry) (take count entries.old) }
+    ensures after { entries.new ≡ over (entered E.Key.TotalOrder.order E.keyed E.joined (take count entries.old) entry) entries.old }
+    ensures size { length (entered E.Key.TotalOrder.order E.keyed E.joined (take count entries.old) entry) ≡ count }
 {
     entries[at] = entries[at].join(entry);
 }
@@ -35,11 +35,11 @@ fn shift_in<E: Copy>(entries: &mut [E], count: usize, at: usize, entry: E)
 // Puts `entry`, whose key does not stand, at its place `at`.
 pub fn insert_at<E: Entry>(entries: &mut [E], count: usize, at: usize, entry: E) -> Result<(), Full>
     requires room { (count ≤ length entries.old) × (at ≤ count) }
-    requires place { at ≡ place E.Key.TotalOrder.order keyed (take count entries.old) (keyed entry) }
-    requires missing { has_key E.Key.TotalOrder.order keyed (take count entries.old) (keyed entry) ≡ false }
-    ensures answer { is_ok result ≡ nat_le (length (entered E.Key.TotalOrder.order keyed joined (take count entries.old) entry)) (length entries.old) }
-    ensures after { entries.new ≡ (if is_ok result then over (entered E.Key.TotalOrder.order keyed joined (take count entries.old) entry) entries.old else entries.old) }
-    ensures size { length (entered E.Key.TotalOrder.order keyed joined (take count entries.old) entry) ≡ count + 1 }
+    requires place { at ≡ place E.Key.TotalOrder.order E.keyed (take count entries.old) (E.keyed entry) }
+    requires missing { has_key E.Key.TotalOrder.order E.keyed (take count entries.old) (E.keyed entry) ≡ false }
+    ensures answer { is_ok result ≡ nat_le (length (entered E.Key.TotalOrder.order E.keyed E.joined (take count entries.old) entry)) (length entries.old) }
+    ensures after { entries.new ≡ (if is_ok result then over (entered E.Key.TotalOrder.order E.keyed E.joined (take count entries.old) entry) entries.old else entries.old) }
+    ensures size { length (entered E.Key.TotalOrder.order E.keyed E.joined (take count entries.old) entry) ≡ count + 1 }
 {
     if count == entries.len() {
         return Err(Full);
@@ -51,7 +51,7 @@ pub fn insert_at<E: Entry>(entries: &mut [E], count: usize, at: usize, entry: E)
 // Moves the entries that are not spent to the front, in their order, and answers how many they are.
 fn compact<E: Entry>(entries: &mut [E], count: usize) -> usize
     requires { count ≤ length entries.old }
-    ensures front { take result entries.new ≡ filter (λ e. not (spent e)) (take count entries.old) }
+    ensures front { take result entries.new ≡ filter (λ e. not (E.spent e)) (take count entries.old) }
     ensures rest { drop count entries.new ≡ drop count entries.old }
     ensures bound { result ≤ count }
 {
@@ -79,8 +79,8 @@ fn clear<E: Copy>(entries: &mut [E], start: usize, end: usize, blank: E)
 // Drops the spent entries, blanks the places left over, and answers how many entries there are now.
 pub fn drop_spent<E: Entry>(entries: &mut [E], count: usize, blank: E) -> usize
     requires { count ≤ length entries.old }
-    ensures value { result ≡ length (filter (λ e. not (spent e)) (take count entries.old)) }
-    ensures after { entries.new ≡ over (packed count blank (filter (λ e. not (spent e)) (take count entries.old))) entries.old }
+    ensures value { result ≡ length (filter (λ e. not (E.spent e)) (take count entries.old)) }
+    ensures after { entries.new ≡ over (packed count blank (filter (λ e. not (E.spent e)) (take count entries.old))) entries.old }
 {
     let used = compact(entries, count);
     clear(entries, used, count, blank);

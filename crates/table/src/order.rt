@@ -26,7 +26,7 @@ impl TotalOrder for u64 {
     ghost order = { by_number };
 
     fn compare(self, other: u64) -> Ordering {
-        self.cmp(&other)
+        u64::cmp(&self, &other)
     }
 }
 

@@ -4,8 +4,8 @@ use Rattle.table.proofs.Monomials.{is_multiplied}
 use Rattle.table.proofs.exponents.product.Goals as goal
 
 -- no exponent is above its degree
-pub overflow-add-sums : goal.overflow-add-sums
-overflow-add-sums c =
+pub overflow_add-sums : goal.overflow_add-sums
+overflow_add-sums c =
     let id : ℕ → ℕ = λ x. x in
     omega (arith, get_or-le-sum_by id c.args.a c.loop-i.i 0 (omega arith), get_or-le-sum_by id c.args.b c.loop-i.i 0 (omega arith))
 

@@ -24,6 +24,6 @@ returns g c =
     let p = c.requires in
     record {
       answer = has_room o key join a.entries.now a.count a.at a.entry p.room.0 p.room.1 p.place p.missing c.if-count-entries.false;
-      after = comes_between o key join a.entries.now a.count a.at a.entry p.room.0 p.room.1 p.place p.missing c.shift-in.new.entries c.shift-in.ensures.after;
+      after = comes_between o key join a.entries.now a.count a.at a.entry p.room.0 p.room.1 p.place p.missing c.shift_in.new.entries c.shift_in.ensures.after;
       size = one_more o key join a.entries.now a.count a.at a.entry p.room.0 p.room.1 p.place p.missing;
     }
