@@ -6,8 +6,8 @@ use Rattle.polynomial.proofs.Pairs.{root-linear}
 use Rattle.table.specs.Monomial.{degree}
 use Rattle.ranging.proofs.pairs.square_part.Goals as goal
 
-pub is-paired-requires : goal.is-paired-requires
-is-paired-requires c = ap degree c.square-root-linear.ensures.value ∙ root-linear c.args.t.monomial c.requires.1.0 (sym c.if-not-all-even.ensures.value)
+pub is_paired-requires : goal.is_paired-requires
+is_paired-requires c = ap degree c.square_root-linear.ensures.value ∙ root-linear c.args.t.monomial c.requires.1.0 (sym c.if-not-all_even.ensures.value)
 
 pub joint-requires : goal.joint-requires
 joint-requires c =

@@ -7,13 +7,13 @@ use Rattle.ranging.proofs.plain.plain_range.Goals as goal
 pub reach-r-requires : goal.reach-r-requires
 reach-r-requires c = sized_weaken (lit≤ tt) (term-sized c.args.terms.now c.loop-t.t-index c.loop-t-test.true c.requires)
 
-pub overflow-add-lower : goal.overflow-add-lower
-overflow-add-lower c =
+pub overflow_add-lower : goal.overflow_add-lower
+overflow_add-lower c =
     let s = plain_step c.args.terms.now c.loop-t.t-index c.reach-r.result c.loop-t-test.true c.requires c.reach-r.ensures.value in
     omega (arith, ints)
 
-pub overflow-add-upper : goal.overflow-add-upper
-overflow-add-upper c =
+pub overflow_add-upper : goal.overflow_add-upper
+overflow_add-upper c =
     let s = plain_step c.args.terms.now c.loop-t.t-index c.reach-r.result c.loop-t-test.true c.requires c.reach-r.ensures.value in
     omega (arith, ints)
 

@@ -6,13 +6,13 @@ use Rattle.ranging.proofs.quadratic.quadratic_range.Goals as goal
 pub part-r-requires : goal.part-r-requires
 part-r-requires c = (c.requires, term_fits c.args.terms.now c.loop-t.t-index c.loop-t-test.true c.requires)
 
-pub overflow-add-lower : goal.overflow-add-lower
-overflow-add-lower c =
+pub overflow_add-lower : goal.overflow_add-lower
+overflow_add-lower c =
     let s = part_step c.args.terms.now c.loop-t.t-index c.part-r.result c.loop-t-test.true c.requires c.part-r.ensures.value in
     omega (arith, ints, c.requires.few)
 
-pub overflow-add-upper : goal.overflow-add-upper
-overflow-add-upper c =
+pub overflow_add-upper : goal.overflow_add-upper
+overflow_add-upper c =
     let s = part_step c.args.terms.now c.loop-t.t-index c.part-r.result c.loop-t-test.true c.requires c.part-r.ensures.value in
     omega (arith, ints, c.requires.few)
 

@@ -4,8 +4,8 @@ use Rattle.polynomial.proofs.PlainLaws.{plain_lawful}
 use Rattle.ranging.proofs.Adding.{fit_addable}
 use Rattle.ranging.proofs.plain.PlainRanging.range.Goals as goal
 
-pub plain-range-requires : goal.plain-range-requires
-plain-range-requires c = fit_addable c.requires
+pub plain_range-requires : goal.plain_range-requires
+plain_range-requires c = fit_addable c.requires
 
 pub returns : goal.returns
 returns c = record { value = c.plain_range.ensures.value; laws = subst (Ranges c.args.terms.now) (sym c.plain_range.ensures.value) (plain_lawful c.args.terms.now c.requires) }
