@@ -1,6 +1,6 @@
 -- What a slice of 40 places holds once a term has entered the terms in its front.
 use Rattle.std.proofs.Common.{◌≡◌, ℕ, ◌-◌, ◌≤◌, Bool, true, false, cond, leb, List, ◌++◌, length, take, drop, Some, None, Ok, Err, Option, sym, refl, ap, ◌∙◌, subst, true≢false, arith, length-append, length-drop, length-take, rules, le-leb, leb-true}
-use native.Mathlib.Nat.{sub_zero}
+use native.Mathlib.Nat.{sub-zero}
 use lib.Seq.{take-append_seam}
 use Rattle.interval.specs.declared.reason.Reason.TheVariants.{TooManyMonomials, DoesNotFit}
 use Rattle.polynomial.specs.declared.term.Term.{Term}
@@ -38,7 +38,7 @@ module _ (ts : List Term) (t : Term) where
 
     -- the part [0..n] of the slice is lent to the test
     whole : (b : Bool) → all_fit (take (n - 0) slice) ≡ b → all_fit (with_term ts t) ≡ b
-    whole b e = ap all_fit (sym f.front) ∙ ap (λ m. all_fit (take m slice)) (sym (sub_zero n)) ∙ e
+    whole b e = ap all_fit (sym f.front) ∙ ap (λ m. all_fit (take m slice)) (sym (sub-zero n)) ∙ e
 
     pub unfit : all_fit (take (n - 0) slice) ≡ false → Err DoesNotFit ≡ admitted ts t
     unfolding admitted

@@ -1,6 +1,6 @@
 -- Without its terms of [0, 0] a canonical list is a polynomial whose coefficients fit.
 use Rattle.std.proofs.Common.{◌≡◌, ℕ, ◌+◌, ◌-◌, ◌≤◌, true, false, not, List, [], ◌∷◌, ◌++◌, length, take, drop, replicate, filter, sym, refl, ap, ◌∙◌, subst, append_assoc, arith, length-append, length-drop, length-take, rules}
-use native.Mathlib.Nat.{sub_zero}
+use native.Mathlib.Nat.{sub-zero}
 use lib.ListN.{length-replicate}
 use lib.Seq.{take-append_seam}
 use Rattle.std.specs.List.{AllByRecursion as All}
@@ -49,5 +49,5 @@ dropped_polynomial ts few c = record {
 -- the part [0..n] of a slice that begins with the reduced terms
 pub lent_polynomial : (ts slice : List Term) (n : ℕ) → n ≤ 40 → take n slice ≡ dropped ts → canonical ts ≡ true → Polynomial (take (n - 0) slice)
 lent_polynomial ts slice n few e c =
-    let same : take (n - 0) slice ≡ dropped ts = ap (λ m. take m slice) (sub_zero n) ∙ e in
+    let same : take (n - 0) slice ≡ dropped ts = ap (λ m. take m slice) (sub-zero n) ∙ e in
     rw same (dropped_polynomial ts (omega (arith, few, ap length e, length-take n slice)) c)

@@ -94,7 +94,7 @@ impl Draft {
 
     // The range of the polynomial without its terms of [0, 0].
     pub fn range<M: Ranging>(&self, method: &M) -> Interval
-        ensures value { result ≡ (meaning method.now).range (dropped (terms_of self.now)) }
+        ensures value { result ≡ (M.meaning method.now).range (dropped (terms_of self.now)) }
         ensures laws { Ranges (dropped (terms_of self.now)) result }
     {
         let polynomial = self.reduced();

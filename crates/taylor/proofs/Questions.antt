@@ -1,6 +1,6 @@
 -- The test of a model, question by question. Assumes nothing.
 use Rattle.std.proofs.Common.{◌≡◌, ◌-◌, true, false, List, take, Ok, Err, sym, refl, ap, ◌∙◌, arith}
-use native.Mathlib.Nat.{sub_zero}
+use native.Mathlib.Nat.{sub-zero}
 use Rattle.interval.specs.declared.reason.Reason.TheVariants.{DoesNotFit}
 use Rattle.interval.specs.Interval.{Summable, fits, plus}
 use Rattle.interval.proofs.Sizes.{sized_weaken, fits-sized}
@@ -20,7 +20,7 @@ module _ (m : MethodMeaning) (r : ModelRecord) where
   lent = take (r.count - 0) r.terms
 
   lent_all : lent ≡ (unpacked r).terms
-  lent_all = ap (λ n. take n r.terms) (sub_zero r.count)
+  lent_all = ap (λ n. take n r.terms) (sub-zero r.count)
 
   pub unfit_coefficients : all_fit lent ≡ false → Err DoesNotFit ≡ passed (tested m (unpacked r))
   unfolding tested

@@ -1,6 +1,6 @@
 -- Terms enter the places of a record one after the other: what then stands there, and when there is no room. Assumes nothing.
 use Rattle.std.proofs.Common.{◌≡◌, ℕ, ◌+◌, ◌-◌, ◌*◌, ◌^◌, ◌<◌, ◌≤◌, Bool, true, false, cond, leb, List, [], ◌∷◌, ◌++◌, map, length, get_or, take, drop, set, replicate, Some, None, Ok, Err, Option, Result, sym, refl, ap, ◌∙◌, subst, arith}
-use native.Mathlib.Nat.{sub_zero}
+use native.Mathlib.Nat.{sub-zero}
 use Rattle.std.specs.List.{AllByRecursion as All}
 use Rattle.std.proofs.ByRecursion.{All-weaker, All-get_or}
 use Rattle.std.proofs.lemmas.List.{at_drop_more, at_drop_all, drop_at, length-set, get_or_default, get_or-append_right, get_or-drop, get_or-take, length-map, length-take-le}
@@ -136,7 +136,7 @@ pub adding_start : (a b : ModelRecord) → Held limit a → Held limit b →
     let more = take (b.count - 0) b.terms in
     Adding more (joins (unpacked a).terms (unpacked b).terms) 0 a.terms a.count
 adding_start a b A B =
-    let front : take (b.count - 0) b.terms ≡ take b.count b.terms = ap (λ n. take n b.terms) (sub_zero b.count) in
+    let front : take (b.count - 0) b.terms ≡ take b.count b.terms = ap (λ n. take n b.terms) (sub-zero b.count) in
     record {
       long = packs_long 40 _ a.terms a.count _ A.canonical.packs;
       places = A.canonical.packs;

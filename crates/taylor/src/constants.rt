@@ -11,7 +11,7 @@ use polynomial::{Term, ZERO_TERM, drop_zeros};
 // Splits the interval: the coefficient is the constant term, the leftover the remainder.
 pub fn constant<K: Kind>(kind: &K, i: Interval) -> ModelRecord
     requires { Fits i }
-    ensures value { result ≡ packed (constant (meaning kind.now) i) }
+    ensures value { result ≡ packed (constant (K.meaning kind.now) i) }
 {
     let (coefficient, leftover) = kind.split(i);
     let mut terms = [ZERO_TERM; 40];

@@ -32,7 +32,7 @@ pub fn used(model: &ModelRecord) -> &[Term]
 // A pair: the product of the monomials, with the hull.
 fn pair<K: Kind>(kind: &K, p: Term, q: Term) -> Term
     requires { (Factor p) × (Factor q) }
-    ensures value { result ≡ pair_of (meaning kind.now).scale p q }
+    ensures value { result ≡ pair_of (K.meaning kind.now).scale p q }
 {
     let monomial = product(p.monomial, q.monomial);
     Term {
@@ -45,8 +45,8 @@ fn pair<K: Kind>(kind: &K, p: Term, q: Term) -> Term
 fn keep<K: Kind>(model: &mut ModelRecord, kind: &K, pair: Term) -> Result<(), Reason>
     requires form { Open model.old }
     requires fit { Fits pair.coefficient }
-    ensures value { result ≡ roomy (keep (meaning kind.now) (unpacked model.old) pair) }
-    ensures after { is_ok result ≡ true → unpacked model.new ≡ keep (meaning kind.now) (unpacked model.old) pair }
+    ensures value { result ≡ roomy (keep (K.meaning kind.now) (unpacked model.old) pair) }
+    ensures after { is_ok result ≡ true → unpacked model.new ≡ keep (K.meaning kind.now) (unpacked model.old) pair }
     ensures packs { is_ok result ≡ true → InPlaces model.new }
 {
     let (coefficient, leftover) = kind.split(pair.coefficient);
@@ -106,7 +106,7 @@ impl TallyRecord {
         requires form { Tallies order self.old }
         requires few { self.old.pairs < 1600 }
         requires ends { pair.coefficient.lower ≤ℤ pair.coefficient.upper }
-        ensures took { Took (meaning kind.now) order self.old (pair ∷ []) result self.new }
+        ensures took { Took (K.meaning kind.now) order self.old (pair ∷ []) result self.new }
     {
         let pair = self.hold(pair);
         self.pairs += 1;
@@ -129,7 +129,7 @@ impl TallyRecord {
         requires form { Tallies order self.old }
         requires few { self.old.pairs + length qs.now ≤ 1600 }
         requires factors { (Factor p) × (All Factor qs.now) }
-        ensures took { Took (meaning kind.now) order self.old (row (meaning kind.now).scale p qs.now) result self.new }
+        ensures took { Took (K.meaning kind.now) order self.old (row (K.meaning kind.now).scale p qs.now) result self.new }
     {
         for q in qs {
             self.take(kind, order, pair(kind, p, *q))?;
@@ -148,7 +148,7 @@ impl TallyRecord {
         requires form { Tallies order self.old }
         requires few { self.old.pairs + length ps.now * length qs.now ≤ 1600 }
         requires factors { (All Factor ps.now) × (All Factor qs.now) }
-        ensures took { Took (meaning kind.now) order self.old (all_pairs (meaning kind.now).scale ps.now qs.now) result self.new }
+        ensures took { Took (K.meaning kind.now) order self.old (all_pairs (K.meaning kind.now).scale ps.now qs.now) result self.new }
     {
         for p in ps {
             self.take_row(kind, order, *p, qs)?;

@@ -90,7 +90,7 @@ fn gathered<K: Kind>(
 ) -> Result<TallyRecord, Reason>
     requires first { Factors a.now }
     requires second { Factors b.now }
-    ensures value { result ≡ recorded_tally (product_tally (meaning kind.now) order (unpacked a.now) (unpacked b.now)) }
+    ensures value { result ≡ recorded_tally (product_tally (K.meaning kind.now) order (unpacked a.now) (unpacked b.now)) }
     ensures form { IfOk result (Tallies order) }
 {
     let mut tally = TallyRecord::new();

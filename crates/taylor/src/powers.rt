@@ -18,7 +18,7 @@ use ranging::Ranging;
 
 // One unit.
 fn one<K: Kind>(kind: &K) -> ModelRecord
-    ensures value { result ≡ packed (one (meaning kind.now)) }
+    ensures value { result ≡ packed (one (K.meaning kind.now)) }
 {
     let marks = i64::from(kind.scale().marks());
     constant(
@@ -33,7 +33,7 @@ fn one<K: Kind>(kind: &K) -> ModelRecord
 // A tested model that took no pairs.
 fn alone<M: Ranging>(method: &M, model: &ModelRecord) -> Result<WorkedRecord, Reason>
     requires { Held room model.now }
-    ensures value { result ≡ recorded_worked (and_then (tested (meaning method.now) (unpacked model.now)) (λ N. Ok (worked N 0 true))) }
+    ensures value { result ≡ recorded_worked (and_then (tested (M.meaning method.now) (unpacked model.now)) (λ N. Ok (worked N 0 true))) }
 {
     test(method, model)?;
     Ok(WorkedRecord {

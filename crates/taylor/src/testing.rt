@@ -12,7 +12,7 @@ use ranging::Ranging;
 // Coefficients, remainder, the method's range, and that range plus the remainder must all fit.
 pub fn test<M: Ranging>(method: &M, model: &ModelRecord) -> Result<(), Reason>
     requires { Held room model.now }
-    ensures value { result ≡ passed (tested (meaning method.now) (unpacked model.now)) }
+    ensures value { result ≡ passed (tested (M.meaning method.now) (unpacked model.now)) }
 {
     let terms = &model.terms[..];
     let terms = &terms[0..model.count];

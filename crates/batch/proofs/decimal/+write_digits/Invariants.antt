@@ -1,4 +1,4 @@
 use Rattle.batch.proofs.decimal.+write_digits.Given as goal
 
-abbrev pub decreases-write-digits : goal.decreases-write-digits
-decreases-write-digits g l = l.places
+abbrev pub decreases-write_digits : goal.decreases-write_digits
+decreases-write_digits g l = l.places

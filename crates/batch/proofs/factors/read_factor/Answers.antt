@@ -9,7 +9,7 @@ returns-in-err-power c =
     let name = c.in-Some.name in
     let rest = c.in-Some.exponent in
     let parts = split_parts 94 c.args.word.now (Some (name, rest)) c.in-Some.ensures.cases (omega arith) in
-    record { value = ends _ c.from-residual.result c.in-err-power.field-0.0 _ _ c.from-residual.ensures.1 c.in-err-power.ensures.value ∙ factor_raised _ _ name.now rest.now parts.0 parts.1; bound = unanswered _ (λ e. e ≡ c.in-err-power.field-0.0) c.from-residual.result c.from-residual.ensures.1 }
+    record { value = ends _ c.from_residual.result c.in-err-power.field-0.0 _ _ c.from_residual.ensures.1 c.in-err-power.ensures.value ∙ factor_raised _ _ name.now rest.now parts.0 parts.1; bound = unanswered _ (λ e. e ≡ c.in-err-power.field-0.0) c.from_residual.result c.from_residual.ensures.1 }
 
 pub returns-in-ok-power : goal.returns-in-ok-power
 returns-in-ok-power c =

@@ -7,8 +7,8 @@ pub returns-then-degree-factor : goal.returns-then-degree-factor
 unfolding raised
 returns-then-degree-factor c = search rules
 
-pub overflow-add-product : goal.overflow-add-product
-overflow-add-product c = let below = get_or-le-sum_by (λ n. n) c.args.monomial c.args.factor.place 0 (search rules) in search rules
+pub overflow_add-product : goal.overflow_add-product
+overflow_add-product c = let below = get_or-le-sum_by (λ n. n) c.args.monomial c.args.factor.place 0 (search rules) in search rules
 
 pub returns : goal.returns
 unfolding raised

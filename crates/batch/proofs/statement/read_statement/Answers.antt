@@ -4,8 +4,8 @@ use Rattle.batch.specs.Statements.{said_from}
 use Rattle.batch.proofs.Shapes.{at, after, said_none, said-some, said_at, said_unknown}
 use Rattle.batch.proofs.statement.read_statement.Goals as goal
 
-pub returns-in-default : goal.returns-in-default
-returns-in-default c = record { value = sym (said_none c.args.words.now (search rules)) }
+pub returns-in_default : goal.returns-in_default
+returns-in_default c = record { value = sym (said_none c.args.words.now (search rules)) }
 
 pub returns-in-kind : goal.returns-in-kind
 unfolding said_from
@@ -41,10 +41,10 @@ pub returns-in-range : goal.returns-in-range
 unfolding said_from
 returns-in-range c =
     let ws = c.args.words.now in
-    record { value = c.range.ensures.value ∙ said_at (at ws 0) (codes "range") (after ws) c.in_range.is ∙ sym (said-some ws (search rules)) }
+    record { value = c.range.ensures.value ∙ said_at (at ws 0) (codes "range") (after ws) c.in-range.is ∙ sym (said-some ws (search rules)) }
 
-pub returns-in-default-text : goal.returns-in-default-text
-returns-in-default-text c =
+pub returns-in_default-text : goal.returns-in_default-text
+returns-in_default-text c =
     let ws = c.args.words.now in
-    let other = c.in-default-text in
+    let other = c.in_default-text in
     record { value = said_unknown (at ws 0) (after ws) other.not-kind other.not-method other.not-order other.not-input other.not-term other.not-range ∙ sym (said-some ws (search rules)) }

@@ -5,9 +5,9 @@ use Rattle.batch.proofs.words.words_of.Goals as goal
 
 pub loop-piece-init : goal.loop-piece-init
 loop-piece-init c =
-    let same = c.into-iter-piece-iterator.ensures.into-iter-gives in
+    let same = c.into_iter-piece-iterator.ensures.into-iter-gives in
     let split = c.split-piece-items.ensures in
-    begun _ _ _ (ap split_pattern same ∙ split.callee) (ap split_has_more same ∙ split.Has-more) (ap split_text same ∙ split.text ∙ c.before-comment.ensures.value) c.new-found.ensures.items
+    begun _ _ _ (ap split_pattern same ∙ split.callee) (ap split_has_more same ∙ split.Has-more) (ap split_text same ∙ split.text ∙ c.before_comment.ensures.value) c.new-found.ensures.items
 
 pub loop-piece-preserved-in-Continue· : goal.loop-piece-preserved-in-Continue·
 loop-piece-preserved-in-Continue· c =

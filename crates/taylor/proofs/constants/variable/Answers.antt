@@ -9,4 +9,4 @@ returns c =
     let centre : c.point.result ≡ interval v.centre v.centre = search rules in
     let half : c.point-2.result ≡ interval v.half v.half = search rules in
     let nothing : c.point-3.result ≡ zero_interval = search rules in
-    record { value = variable_record _ _ c.args.number v _ _ _ centre half nothing c.drop-zeros-count.ensures.value c.drop-zeros-count.ensures.after }
+    record { value = variable_record _ _ c.args.number v _ _ _ centre half nothing c.drop_zeros-count.ensures.value c.drop_zeros-count.ensures.after }

@@ -13,8 +13,8 @@ used-requires g c = places_room c.requires.first.packs
 pub used-requires-2 : goal.used-requires-2
 used-requires-2 g c = places_room c.requires.second.packs
 
-pub take-pairs-requires : goal.take-pairs-requires
-take-pairs-requires g c =
+pub take_pairs-requires : goal.take_pairs-requires
+take_pairs-requires g c =
     let start = c.new-tally.ensures.value in
     let first = c.used.ensures.value in
     let second = c.used-2.ensures.value in
@@ -24,13 +24,13 @@ take-pairs-requires g c =
       factors = (subst (All Factor) (sym first) c.requires.first.each, subst (All Factor) (sym second) c.requires.second.each);
     }
 
-pub returns-in-err-take-pairs : goal.returns-in-err-take-pairs
-returns-in-err-take-pairs g c =
-    let p = err_from_is_err_and {Q = λ e. e ≡ c.in-err-take-pairs.field-0.0} c.from-residual.result c.from-residual.ensures.1 in
+pub returns-in_err-take_pairs : goal.returns-in_err-take_pairs
+returns-in_err-take_pairs g c =
+    let p = err_from_is_err_and {Q = λ e. e ≡ c.in_err-take_pairs.field-0.0} c.from_residual.result c.from_residual.ensures.1 in
     let k = g.K.Kind.meaning c.args.kind.now in
     rw (p.1, p.2)
     (record {
       value = gathered-refused k c.args.order (unpacked c.args.a.now) (unpacked c.args.b.now) c.new-tally.result c.used.result.now c.used-2.result.now
-          c.new-tally.ensures.value c.used.ensures.value c.used-2.ensures.value c.in-err-take-pairs.field-0.0 c.in-err-take-pairs.ensures.took.value;
+          c.new-tally.ensures.value c.used.ensures.value c.used-2.ensures.value c.in_err-take_pairs.field-0.0 c.in_err-take_pairs.ensures.took.value;
       form = tt;
     })

@@ -7,11 +7,11 @@ use Rattle.taylor.proofs.multiplying.joint_remainder.Given as given
 use Rattle.taylor.proofs.multiplying.joint_remainder.Goals as goal
 use Rattle.taylor.proofs.multiplying.joint_remainder.Goals.{Else-not-fits-3}
 
-first : (g : given.Over) (c : Else-not-fits-3 g) → Fits c.range-remainder-first.result
-first g c = product-fits (g.K.Kind.meaning c.args.kind.now) refl _ _ c.range-remainder-first.result c.range-remainder-first.ensures.value c.if-not-fits.ensures.value
+first : (g : given.Over) (c : Else-not-fits-3 g) → Fits c.range_remainder-first.result
+first g c = product-fits (g.K.Kind.meaning c.args.kind.now) refl _ _ c.range_remainder-first.result c.range_remainder-first.ensures.value c.if-not-fits.ensures.value
 
-second : (g : given.Over) (c : Else-not-fits-3 g) → Fits c.range-remainder-second.result
-second g c = product-fits (g.K.Kind.meaning c.args.kind.now) refl _ _ c.range-remainder-second.result c.range-remainder-second.ensures.value c.if-not-fits-2.ensures.value
+second : (g : given.Over) (c : Else-not-fits-3 g) → Fits c.range_remainder-second.result
+second g c = product-fits (g.K.Kind.meaning c.args.kind.now) refl _ _ c.range_remainder-second.result c.range_remainder-second.ensures.value c.if-not-fits-2.ensures.value
 
 third : (g : given.Over) (c : Else-not-fits-3 g) → Fits c.times-third.result
 third g c = product-fits (g.K.Kind.meaning c.args.kind.now) c.scale.ensures.value c.args.a.now.remainder c.args.b.now.remainder c.times-third.result c.times-third.ensures.value c.if-not-fits-3.ensures.value

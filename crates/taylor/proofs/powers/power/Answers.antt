@@ -22,8 +22,8 @@ returns-in-1 g c =
     let m = g.M.Ranging.meaning c.args.method.now in
     record { value = power-one k m c.args.order (unpacked c.args.operand.now) c.args.exponent c.in-1.is c.alone-in-1.result c.alone-in-1.ensures.value }
 
-pub returns-in-default : goal.returns-in-default
-returns-in-default g c =
+pub returns-in_default : goal.returns-in_default
+returns-in_default g c =
     let k = g.K.Kind.meaning c.args.kind.now in
     let m = g.M.Ranging.meaning c.args.method.now in
     record { value = power_more k m c.args.order (unpacked c.args.operand.now) c.args.exponent (omega arith) c.raised.result c.raised.ensures.value }

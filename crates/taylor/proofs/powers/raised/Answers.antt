@@ -6,14 +6,14 @@ use Rattle.taylor.specs.Product.{worked}
 use Rattle.taylor.proofs.Raised.{times_ready, times_counted, raised-refused, raised_again, raised_all}
 use Rattle.taylor.proofs.powers.raised.Goals as goal
 
-pub returns-in-err-worked : goal.returns-in-err-worked
-returns-in-err-worked g c =
-    let p = err_from_is_err_and {Q = λ e. e ≡ c.in-err-worked.field-0.0} c.from-residual.result c.from-residual.ensures.1 in
+pub returns-in_err-worked : goal.returns-in_err-worked
+returns-in_err-worked g c =
+    let p = err_from_is_err_and {Q = λ e. e ≡ c.in_err-worked.field-0.0} c.from_residual.result c.from_residual.ensures.1 in
     let k = g.K.Kind.meaning c.args.kind.now in
     let m = g.M.Ranging.meaning c.args.method.now in
     let N = unpacked c.args.operand.now in
     rw (p.1, p.2)
-    (record { value = raised-refused k m c.args.order N c.args.more c.loop-done.-done c.loop-done.worked (worked N 0 true) c.loop-done.invariant.2 c.loop-done-test.true c.in-err-worked.field-0.0 c.in-err-worked.ensures.value })
+    (record { value = raised-refused k m c.args.order N c.args.more c.loop-done._done c.loop-done.worked (worked N 0 true) c.loop-done.invariant.2 c.loop-done-test.true c.in_err-worked.field-0.0 c.in_err-worked.ensures.value })
 
 pub loop-done-preserved : goal.loop-done-preserved
 loop-done-preserved g c =
@@ -21,13 +21,13 @@ loop-done-preserved g c =
     let m = g.M.Ranging.meaning c.args.method.now in
     let N = unpacked c.args.operand.now in
     let inv = c.loop-done.invariant in
-    let V = c.in-ok-worked.worked in
-    let h = c.in-ok-worked.ensures.value in
+    let V = c.in_ok-worked.worked in
+    let h = c.in_ok-worked.ensures.value in
     let A = inv.0.tested.normal in
     let B = c.requires.operand.tested.normal in (
       times_ready k m c.args.order c.loop-done.worked V N h c.requires.order A B,
       omega (arith, inv.1, times_counted k m c.args.order c.loop-done.worked V N h A.few B.few),
-      raised_again k m c.args.order N c.args.more c.loop-done.-done c.loop-done.worked (worked N 0 true) inv.2 c.loop-done-test.true V h,
+      raised_again k m c.args.order N c.args.more c.loop-done._done c.loop-done.worked (worked N 0 true) inv.2 c.loop-done-test.true V h,
     )
 
 pub returns : goal.returns
@@ -35,4 +35,4 @@ returns g c =
     let k = g.K.Kind.meaning c.args.kind.now in
     let m = g.M.Ranging.meaning c.args.method.now in
     let N = unpacked c.args.operand.now in
-    record { value = raised_all k m c.args.order N c.args.more c.loop-done.-done c.loop-done.worked (worked N 0 true) c.loop-done.invariant.2 c.loop-done-test.false c.loop-done.invariant.0 }
+    record { value = raised_all k m c.args.order N c.args.more c.loop-done._done c.loop-done.worked (worked N 0 true) c.loop-done.invariant.2 c.loop-done-test.false c.loop-done.invariant.0 }

@@ -10,5 +10,5 @@ invariant-loop-done g l =
     let k = g.K.Kind.meaning l.kind in
     let m = g.M.Ranging.meaning l.method in
     let N = unpacked l.operand in
-    Ready m l.worked.model × (l.worked.pairs ≤ l.-done * 1600)
-    × (raised k m l.order (l.more - l.-done) (worked_of l.worked) N ≡ raised k m l.order l.more (worked N 0 true) N)
+    Ready m l.worked.model × (l.worked.pairs ≤ l._done * 1600)
+    × (raised k m l.order (l.more - l._done) (worked_of l.worked) N ≡ raised k m l.order l.more (worked N 0 true) N)

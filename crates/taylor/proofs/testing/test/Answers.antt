@@ -2,40 +2,40 @@ use Rattle.std.proofs.Common.{◌≡◌, true, sym, ap, ◌∙◌, subst}
 use Rattle.interval.specs.declared.marks.Interval.{Interval}
 use Rattle.interval.specs.Interval.{Summable, fits, plus}
 use Rattle.taylor.proofs.Questions.{unfit_coefficients, unfit_remainder, unfit_range, unfit_whole, fit-whole, lent_polynomial, range-fits, remainder_adds}
-use Rattle.taylor.proofs.testing.test.Goals.{then-not-all-fit-via-then-not-all-fit, then-not-all-fit-via-else-not-all-fit+then-not-fits}
+use Rattle.taylor.proofs.testing.test.Goals.{then-not-all_fit-via-then-not-all_fit, then-not-all_fit-via-else-not-all_fit+then-not-fits}
 use Rattle.taylor.proofs.testing.test.Goals.{then-not-fits-2-via-then-not-fits-2, then-not-fits-2-via-else-not-fits-2+then-not-fits-3}
 use Rattle.taylor.proofs.testing.test.Goals as goal
 
-pub returns-then-not-all-fit : goal.returns-then-not-all-fit
-returns-then-not-all-fit g c =
+pub returns-then-not-all_fit : goal.returns-then-not-all_fit
+returns-then-not-all_fit g c =
     let r = c.args.model.now in
     let m = g.M.Ranging.meaning c.args.method.now in
     record {
-      value = elim c.then-not-all-fit.branch [
-        | then-not-all-fit-via-then-not-all-fit w ↦ unfit_coefficients m r (sym c.all-fit.ensures.value ∙ w.if-not-all-fit.true)
-        | then-not-all-fit-via-else-not-all-fit+then-not-fits w ↦ unfit_remainder m r (sym w.if-not-all-fit.ensures.value) (sym w.fits-else-not-all-fit.ensures.value ∙ w.if-not-fits.true)
+      value = elim c.then-not-all_fit.branch [
+        | then-not-all_fit-via-then-not-all_fit w ↦ unfit_coefficients m r (sym c.all_fit.ensures.value ∙ w.if-not-all_fit.true)
+        | then-not-all_fit-via-else-not-all_fit+then-not-fits w ↦ unfit_remainder m r (sym w.if-not-all_fit.ensures.value) (sym w.fits.ensures.value ∙ w.if-not-fits.true)
       ];
     }
 
 pub range-range-requires : goal.range-range-requires
-range-range-requires g c = lent_polynomial (g.M.Ranging.meaning c.args.method.now) c.args.model.now c.requires (sym c.if-not-all-fit.ensures.value)
+range-range-requires g c = lent_polynomial (g.M.Ranging.meaning c.args.method.now) c.args.model.now c.requires (sym c.if-not-all_fit.ensures.value)
 
 pub plus-requires : goal.plus-requires
 plus-requires g c =
     let r = c.args.model.now in
     let m = g.M.Ranging.meaning c.args.method.now in
-    (subst (λ (i : Interval). fits i ≡ true → Summable i) (sym c.range-range.ensures.value) (range-fits m r c.requires (sym c.if-not-all-fit.ensures.value)) (sym c.if-not-fits-2.ensures.value), remainder_adds m r c.requires)
+    (subst (λ (i : Interval). fits i ≡ true → Summable i) (sym c.range-range.ensures.value) (range-fits m r c.requires (sym c.if-not-all_fit.ensures.value)) (sym c.if-not-fits-2.ensures.value), remainder_adds m r c.requires)
 
 pub returns-then-not-fits-2 : goal.returns-then-not-fits-2
 returns-then-not-fits-2 g c =
     let r = c.args.model.now in
     let m = g.M.Ranging.meaning c.args.method.now in
-    let a = sym c.if-not-all-fit.ensures.value in
+    let a = sym c.if-not-all_fit.ensures.value in
     let b = sym c.if-not-fits.ensures.value in
     let e = sym c.range-range.ensures.value in
     record {
       value = elim c.then-not-fits-2.branch [
-        | then-not-fits-2-via-then-not-fits-2 w ↦ unfit_range m r a b (ap fits e ∙ sym c.fits.ensures.value ∙ w.if-not-fits-2.true)
+        | then-not-fits-2-via-then-not-fits-2 w ↦ unfit_range m r a b (ap fits e ∙ sym c.fits-2.ensures.value ∙ w.if-not-fits-2.true)
         | then-not-fits-2-via-else-not-fits-2+then-not-fits-3 w ↦
             unfit_whole m r a b (ap fits e ∙ sym w.if-not-fits-2.ensures.value)
             (ap (λ i. fits (plus i r.remainder)) e ∙ ap fits (sym w.plus.ensures.value) ∙ sym w.fits-else-not-fits-2.ensures.value ∙ w.if-not-fits-3.true)
@@ -48,6 +48,6 @@ returns g c =
     let m = g.M.Ranging.meaning c.args.method.now in
     let e = sym c.range-range.ensures.value in
     record {
-      value = fit-whole m r (sym c.if-not-all-fit.ensures.value) (sym c.if-not-fits.ensures.value) (ap fits e ∙ sym c.if-not-fits-2.ensures.value)
+      value = fit-whole m r (sym c.if-not-all_fit.ensures.value) (sym c.if-not-fits.ensures.value) (ap fits e ∙ sym c.if-not-fits-2.ensures.value)
           (ap (λ i. fits (plus i r.remainder)) e ∙ ap fits (sym c.plus.ensures.value) ∙ sym c.if-not-fits-3.ensures.value);
     }

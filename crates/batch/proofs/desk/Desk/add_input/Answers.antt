@@ -4,8 +4,8 @@ use Rattle.batch.specs.Inputs.{place_of}
 use Rattle.batch.proofs.Taking.{counted, names_are, input_taken_name, input_too_many, input_refused, input_comes}
 use Rattle.batch.proofs.desk.Desk.add_input.Goals as goal
 
-pub returns-then-is-some : goal.returns-then-is-some
-returns-then-is-some c =
+pub returns-then-is_some : goal.returns-then-is_some
+returns-then-is_some c =
     let d = c.args.self.now in
     let there : is_some (place_of (names (view d)) c.args.name.now) ≡ true = rw (names_are d) (search rules) in
     record { value = (refl, inl (input_taken_name (view d) c.args.name.now c.args.low c.args.high there)) }

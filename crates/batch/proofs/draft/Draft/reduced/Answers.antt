@@ -2,8 +2,8 @@ use Rattle.batch.proofs.Reductions.{dropped_front, dropped-canonical}
 use Rattle.batch.specs.DraftTerms.{terms_of}
 use Rattle.batch.proofs.draft.Draft.reduced.Goals as goal
 
-pub invariant-of-result : goal.invariant-of-result
-invariant-of-result c =
+pub invariant_of-result : goal.invariant_of-result
+invariant_of-result c =
     let old = c.args.self.now in
     let f = dropped_front old.terms _ old.count _ old.long old.few c.swept-count.ensures.value c.swept-count.ensures.after in
     (f.long, (f.few, (rw f.front (dropped-canonical (terms_of old) old.sound), tt)))

@@ -19,6 +19,6 @@ pub returns-in-meet : goal.returns-in-meet
 unfolding advanced
 returns-in-meet c = search rules
 
-pub returns-in-default : goal.returns-in-default
+pub returns-in_default : goal.returns-in_default
 unfolding advanced
-returns-in-default c = search (rules, bytes_eq-Decides)
+returns-in_default c = search (rules, bytes_eq-Decides)

@@ -8,8 +8,8 @@ use Rattle.taylor.specs.Gathering.{tally_of, Factor}
 use Rattle.taylor.proofs.Rows.{rows_few, rows_all, rows_again, rows_refused, took_all, took_none}
 use Rattle.taylor.proofs.gathering.TallyRecord.take_pairs.Goals as goal
 
-pub take-row-requires : goal.take-row-requires
-take-row-requires g c =
+pub take_row-requires : goal.take_row-requires
+take_row-requires g c =
     let k = g.K.Kind.meaning c.args.kind.now in
     let inv = c.loop-p.invariant in
     let factors = c.requires.factors in
@@ -19,22 +19,22 @@ take-row-requires g c =
       factors = (All-get_or Factor c.args.ps.now c.loop-p.p-index unread c.loop-p-test.true factors.0, factors.1);
     }
 
-pub returns-in-err-take-row : goal.returns-in-err-take-row
-returns-in-err-take-row g c =
+pub returns-in_err-take_row : goal.returns-in_err-take_row
+returns-in_err-take_row g c =
     let k = g.K.Kind.meaning c.args.kind.now in
-    let p = err_from_is_err_and {Q = λ e. e ≡ c.in-err-take-row.field-0.0} c.from-residual.result c.from-residual.ensures.1 in
-    let reason = c.in-err-take-row.field-0.0 in
+    let p = err_from_is_err_and {Q = λ e. e ≡ c.in_err-take_row.field-0.0} c.from_residual.result c.from_residual.ensures.1 in
+    let reason = c.in_err-take_row.field-0.0 in
     let r = rows_refused k c.args.order c.args.ps.now c.args.qs.now c.loop-p.p-index c.loop-p-test.true
-    (tally_of c.loop-p.self) _ reason c.in-err-take-row.ensures.took.value c.loop-p.invariant.2 in
-    rw (p.1, p.2) (record { took = took_none k c.args.order c.args.self.now c.take-row.new.self (pairs k.scale c.args.ps.now c.args.qs.now) reason r })
+    (tally_of c.loop-p.self) _ reason c.in_err-take_row.ensures.took.value c.loop-p.invariant.2 in
+    rw (p.1, p.2) (record { took = took_none k c.args.order c.args.self.now c.take_row.new.self (pairs k.scale c.args.ps.now c.args.qs.now) reason r })
 
 pub loop-p-preserved : goal.loop-p-preserved
 loop-p-preserved g c =
     let k = g.K.Kind.meaning c.args.kind.now in
-    let e = c.in-ok-take-row.ensures.took in
+    let e = c.in_ok-take_row.ensures.took in
     let inv = c.loop-p.invariant in
     let more = rows_again k c.args.order c.args.ps.now c.args.qs.now c.loop-p.p-index c.loop-p-test.true
-    c.args.self.now.pairs (tally_of c.loop-p.self) (tally_of c.take-row.new.self) _ (e.after (refl {a = true})) inv.1 inv.2 in
+    c.args.self.now.pairs (tally_of c.loop-p.self) (tally_of c.take_row.new.self) _ (e.after (refl {a = true})) inv.1 inv.2 in
     (e.form (refl {a = true}), more.0, more.1)
 
 pub returns : goal.returns

@@ -21,18 +21,18 @@ take-requires g c =
       ends = pair_ends k c.args.order c.args.p c.args.qs.now c.loop-q.q-index c.loop-q-test.true c.pair.result c.pair.ensures.value;
     }
 
-pub returns-in-err-take : goal.returns-in-err-take
-returns-in-err-take g c =
+pub returns-in_err-take : goal.returns-in_err-take
+returns-in_err-take g c =
     let k = g.K.Kind.meaning c.args.kind.now in
-    let p = err_from_is_err_and {Q = λ e. e ≡ c.in-err-take.field-0.0} c.from-residual.result c.from-residual.ensures.1 in
+    let p = err_from_is_err_and {Q = λ e. e ≡ c.in_err-take.field-0.0} c.from_residual.result c.from_residual.ensures.1 in
     let r = row-refused k c.args.order c.args.p c.args.qs.now c.loop-q.q-index c.loop-q-test.true c.pair.result c.pair.ensures.value
-    (tally_of c.loop-q.self) _ c.in-err-take.field-0.0 c.in-err-take.ensures.took.value c.loop-q.invariant.2 in
-    rw (p.1, p.2) (record { took = took_none k c.args.order c.args.self.now c.take.new.self (row k.scale c.args.p c.args.qs.now) c.in-err-take.field-0.0 r })
+    (tally_of c.loop-q.self) _ c.in_err-take.field-0.0 c.in_err-take.ensures.took.value c.loop-q.invariant.2 in
+    rw (p.1, p.2) (record { took = took_none k c.args.order c.args.self.now c.take.new.self (row k.scale c.args.p c.args.qs.now) c.in_err-take.field-0.0 r })
 
 pub loop-q-preserved : goal.loop-q-preserved
 loop-q-preserved g c =
     let k = g.K.Kind.meaning c.args.kind.now in
-    let e = c.in-ok-take.ensures.took in
+    let e = c.in_ok-take.ensures.took in
     let inv = c.loop-q.invariant in
     let more = row_again k c.args.order c.args.p c.args.qs.now c.loop-q.q-index c.loop-q-test.true c.pair.result c.pair.ensures.value
     c.args.self.now.pairs (tally_of c.loop-q.self) (tally_of c.take.new.self) _ (e.after (refl {a = true})) inv.1 inv.2 in
