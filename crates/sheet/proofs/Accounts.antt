@@ -1,6 +1,6 @@
 -- The accounts of a record: how an office's account is found. Assumes nothing.
 use Rattle.std.proofs.Common.{◌≡◌, ℕ, ◌-◌, ◌<◌, Bool, true, false, not, List, length, get_or, take, Ok, Err, sym, ap, ◌∙◌}
-use native.Mathlib.Nat.{sub_zero}
+use native.Mathlib.Nat.{sub-zero}
 use Rattle.std.proofs.lemmas.List.{get_or_default}
 use Rattle.std.proofs.lemmas.Bool.{not-true, not-false, cond-true}
 use Rattle.interval.specs.declared.reason.Reason.TheVariants.{NoAccount}
@@ -22,7 +22,7 @@ module _ (s : SheetRecord) (office : ℕ) where
   lent = take (s.offices - 0) s.accounts
 
   lent_all : lent ≡ (state_of s).accounts
-  lent_all = ap (λ n. take n s.accounts) (sub_zero s.offices)
+  lent_all = ap (λ n. take n s.accounts) (sub-zero s.offices)
 
   -- by one search
   module _ (found : Bool) (is : found ≡ has_account lent office) where

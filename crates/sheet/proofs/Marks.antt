@@ -1,6 +1,6 @@
 -- The lines that use a variable, marked one after the other. Assumes nothing.
 use Rattle.std.proofs.Common.{◌≡◌, ℕ, ◌+◌, ◌-◌, ◌<◌, ◌≤◌, Bool, false, List, [], ◌∷◌, ◌++◌, length, get_or, take, set, sym, refl, ap, ◌∙◌, subst, ap₂, arith}
-use native.Mathlib.Nat.{sub_zero}
+use native.Mathlib.Nat.{sub-zero}
 use Rattle.std.proofs.lemmas.List.{length-map, length-set, take_more, take_all, get_or-map}
 use Rattle.table.specs.Slice.{packed, Packs}
 use Rattle.table.proofs.Packing.{packs_front}
@@ -40,7 +40,7 @@ module _ (s : SheetRecord) (shape : Shape s) (v : ℕ) where
     text = get_or-map (λ l. l.text) (state_of s).lines n (line_of zero_line) [] (rw lines h) ∙ ap (λ l. l.text) (line-there s.standing s.lines shape.lines n d (line_of zero_line) h)
 
     below : take (n - 0) marks ≡ uses v (take n posted)
-    below = ap (λ i. take i marks) (sub_zero n) ∙ packs_front 12 false marks n _ m.packs
+    below = ap (λ i. take i marks) (sub-zero n) ∙ packs_front 12 false marks n _ m.packs
 
     pub marked_more : (used : Bool) → used ≡ any_uses v (take (n - 0) marks) (tokens (line_of (get_or s.lines n d)).text) → Marked s v (n + 1) (set marks n used)
     marked_more used is =

@@ -1,6 +1,6 @@
 -- The range of a model's polynomial can be asked for, and added to the remainder. Assumes nothing.
 use Rattle.std.proofs.Common.{◌≡◌, ℕ, suc, ◌+◌, ◌-◌, ◌*◌, List, [], ◌∷◌, length, take, sym, ap, ◌∙◌, subst, suc-mul, arith}
-use native.Mathlib.Nat.{sub_zero}
+use native.Mathlib.Nat.{sub-zero}
 use Rattle.std.specs.List.{AllByRecursion as All}
 use Rattle.std.proofs.ByRecursion.{All-weaker}
 use Rattle.std.proofs.lemmas.Int.{ints}
@@ -36,7 +36,7 @@ module _ (m : MethodMeaning) where
   module _ (r : ModelRecord) (h : Held limit r) where
     -- the terms as they are lent
     lent_all : take (r.count - 0) r.terms ≡ (unpacked r).terms
-    lent_all = ap (λ n. take n r.terms) (sub_zero r.count)
+    lent_all = ap (λ n. take n r.terms) (sub-zero r.count)
 
     pub lent_polynomial : Polynomial (take (r.count - 0) r.terms)
     lent_polynomial = rw lent_all (normal_polynomial m (unpacked r) h.canonical.normal h.sized.coefficients)

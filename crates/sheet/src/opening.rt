@@ -55,7 +55,7 @@ pub fn open<K: Kind>(
     ends: &[(f64, f64)],
     allowance: u64,
 ) -> Result<SheetRecord, Refusal>
-    ensures value { result_map_both state_of (λ e. e) result ≡ open_sheet (meaning kind.now) (opening order ends.now allowance) }
+    ensures value { result_map_both state_of (λ e. e) result ≡ open_sheet (K.meaning kind.now) (opening order ends.now allowance) }
     ensures keeps { IfOk result Shape }
 {
     if !is_from_to(1, 8, order) {

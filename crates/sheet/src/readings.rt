@@ -31,7 +31,7 @@ pub fn read_model(sheet: &SheetRecord, number: u64, out: &mut ModelRecord) -> Re
 // The method's range of the polynomial plus the remainder.
 fn full_range<M: Ranging>(method: &M, model: &ModelRecord) -> Interval
     requires { Held limit model.now }
-    ensures value { result ≡ full_range (meaning method.now) (unpacked model.now) }
+    ensures value { result ≡ full_range (M.meaning method.now) (unpacked model.now) }
 {
     let terms = &model.terms[..];
     method.range(&terms[0..model.count]).plus(model.remainder)
@@ -43,7 +43,7 @@ pub fn read_range<M: Ranging>(
     number: u64,
 ) -> Result<Interval, Refusal>
     requires shape { Shape sheet.now }
-    ensures value { result ≡ read_range (meaning method.now) (state_of sheet.now) number }
+    ensures value { result ≡ read_range (M.meaning method.now) (state_of sheet.now) number }
 {
     let Some(here) = line_at(sheet, number) else {
         return Err(refuse(Reason::NoLineToRead, number));

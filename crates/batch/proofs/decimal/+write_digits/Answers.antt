@@ -10,4 +10,4 @@ returns-then-places-eq0 g t c =
 pub returns : goal.returns
 returns g t c =
     let more = digits_more c.args.places c.args.fraction (search rules) (search rules) in
-    record { prints = λ p o. let first = c.in_ok-write.ensures.shows p refl in has_written_of_eq _ _ _ _ _ (sym more) (has_written_append _ _ _ _ _ _ first (c.write-digits.ensures.prints first.plain o)) }
+    record { prints = λ p o. let first = c.in_ok-write.ensures.writes p refl in has_written_of_eq _ _ _ _ _ (sym more) (has_written_append _ _ _ _ _ _ first (c.write_digits.ensures.prints first.plain o)) }

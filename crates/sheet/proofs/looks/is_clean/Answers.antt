@@ -3,8 +3,8 @@ use Rattle.sheet.specs.State.{Line}
 use Rattle.sheet.proofs.Looking.{told_of}
 use Rattle.sheet.proofs.looks.is_clean.Goals as goal
 
-pub returns-in-err-line-at : goal.returns-in-err-line-at
-returns-in-err-line-at c = record { value = c.from-residual.ensures ∙ told_of c.args.sheet.now c.args.number (λ (l : Line). l.worked.clean) _ c.in-err-line-at.ensures.value }
+pub returns-in_err-line_at : goal.returns-in_err-line_at
+returns-in_err-line_at c = record { value = c.from_residual.ensures ∙ told_of c.args.sheet.now c.args.number (λ (l : Line). l.worked.clean) _ c.in_err-line_at.ensures.value }
 
 pub returns : goal.returns
-returns c = record { value = told_of c.args.sheet.now c.args.number (λ (l : Line). l.worked.clean) _ c.in-ok-line-at.ensures.value }
+returns c = record { value = told_of c.args.sheet.now c.args.number (λ (l : Line). l.worked.clean) _ c.in_ok-line_at.ensures.value }

@@ -2,46 +2,46 @@ use Rattle.interval.specs.Scale.{per_unit}
 use Rattle.sheet.proofs.Openings.{opens_no_order, opens_no_box, opens_no_allowance, opens-refused, opens-value, opens_shape, unopened}
 use Rattle.sheet.proofs.opening.open.Goals as goal
 
-pub returns-then-not-is-from-to : goal.returns-then-not-is-from-to
-returns-then-not-is-from-to g c =
+pub returns-then-not-is_from_to : goal.returns-then-not-is_from_to
+returns-then-not-is_from_to g c =
     let k = g.K.Kind.meaning c.args.kind.now in
-    record { value = opens_no_order k c.args.order c.args.ends.now c.args.allowance c.if-not-is-from-to.ensures.value _ c.refuse.ensures.value; keeps = tt }
+    record { value = opens_no_order k c.args.order c.args.ends.now c.args.allowance c.if-not-is_from_to.ensures.value _ c.refuse.ensures.value; keeps = tt }
 
-pub returns-then-not-is-from-to-2 : goal.returns-then-not-is-from-to-2
-returns-then-not-is-from-to-2 g c =
+pub returns-then-not-is_from_to-2 : goal.returns-then-not-is_from_to-2
+returns-then-not-is_from_to-2 g c =
     let k = g.K.Kind.meaning c.args.kind.now in
     record {
-      value = opens_no_box k c.args.order c.args.ends.now c.args.allowance c.if-not-is-from-to.ensures.value c.if-not-is-from-to-2.ensures.value _
-          c.refuse-then-not-is-from-to-2.ensures.value;
+      value = opens_no_box k c.args.order c.args.ends.now c.args.allowance c.if-not-is_from_to.ensures.value c.if-not-is_from_to-2.ensures.value _
+          c.refuse-then-not-is_from_to-2.ensures.value;
       keeps = tt;
     }
 
-pub returns-then-not-is-from-to-3 : goal.returns-then-not-is-from-to-3
-returns-then-not-is-from-to-3 g c =
+pub returns-then-not-is_from_to-3 : goal.returns-then-not-is_from_to-3
+returns-then-not-is_from_to-3 g c =
     let k = g.K.Kind.meaning c.args.kind.now in
     record {
-      value = opens_no_allowance k c.args.order c.args.ends.now c.args.allowance c.if-not-is-from-to.ensures.value c.if-not-is-from-to-2.ensures.value
-          c.if-not-is-from-to-3.ensures.value _ c.refuse-then-not-is-from-to-3.ensures.value;
+      value = opens_no_allowance k c.args.order c.args.ends.now c.args.allowance c.if-not-is_from_to.ensures.value c.if-not-is_from_to-2.ensures.value
+          c.if-not-is_from_to-3.ensures.value _ c.refuse-then-not-is_from_to-3.ensures.value;
       keeps = tt;
     }
 
-pub returns-in-err-made : goal.returns-in-err-made
-returns-in-err-made g c =
+pub returns-in_err-made : goal.returns-in_err-made
+returns-in_err-made g c =
     let k = g.K.Kind.meaning c.args.kind.now in
-    let e = c.in-err-made.field-0.0 in
+    let e = c.in_err-made.field-0.0 in
     record {
-      value = opens-refused k c.args.order c.args.ends.now c.args.allowance c.if-not-is-from-to.ensures.value c.if-not-is-from-to-2.ensures.value
-          c.if-not-is-from-to-3.ensures.value (per_unit c.scale.result) c.scale.ensures.value e c.in-err-made.ensures.value c.from-residual.result c.from-residual.ensures.1;
-      keeps = unopened e c.from-residual.result c.from-residual.ensures.1;
+      value = opens-refused k c.args.order c.args.ends.now c.args.allowance c.if-not-is_from_to.ensures.value c.if-not-is_from_to-2.ensures.value
+          c.if-not-is_from_to-3.ensures.value (per_unit c.scale.result) c.scale.ensures.value e c.in_err-made.ensures.value c.from_residual.result c.from_residual.ensures.1;
+      keeps = unopened e c.from_residual.result c.from_residual.ensures.1;
     }
 
 pub returns : goal.returns
 returns g c =
     let k = g.K.Kind.meaning c.args.kind.now in
-    let made = c.in-ok-made.ensures in
+    let made = c.in_ok-made.ensures in
     rw c.zero.ensures.value (record {
-      value = opens-value k c.args.order c.args.ends.now c.args.allowance c.if-not-is-from-to.ensures.value c.if-not-is-from-to-2.ensures.value
-          c.if-not-is-from-to-3.ensures.value (per_unit c.scale.result) c.scale.ensures.value c.in-ok-made.made made.value;
-      keeps = opens_shape k c.args.order c.args.ends.now c.args.allowance c.if-not-is-from-to.ensures.value c.if-not-is-from-to-2.ensures.value
-          c.if-not-is-from-to-3.ensures.value (per_unit c.scale.result) c.scale.ensures.value c.in-ok-made.made made.value made.fit;
+      value = opens-value k c.args.order c.args.ends.now c.args.allowance c.if-not-is_from_to.ensures.value c.if-not-is_from_to-2.ensures.value
+          c.if-not-is_from_to-3.ensures.value (per_unit c.scale.result) c.scale.ensures.value c.in_ok-made.made made.value;
+      keeps = opens_shape k c.args.order c.args.ends.now c.args.allowance c.if-not-is_from_to.ensures.value c.if-not-is_from_to-2.ensures.value
+          c.if-not-is_from_to-3.ensures.value (per_unit c.scale.result) c.scale.ensures.value c.in_ok-made.made made.value made.fit;
     })

@@ -1,10 +1,10 @@
 use Rattle.sheet.proofs.LineReadings.{no_model_value, no_model_after, model-value, model-after}
 use Rattle.sheet.proofs.readings.read_model.Goals as goal
 
-pub returns-in-default : goal.returns-in-default
-returns-in-default c =
+pub returns-in_default : goal.returns-in_default
+returns-in_default c =
     let s = c.args.sheet.now in
-    let none = c.in-default.ensures.value in
+    let none = c.in_default.ensures.value in
     let is = c.refuse.ensures.value in
     record { value = no_model_value s c.args.number none _ is; after = no_model_after s c.args.number none _ is c.args.out.now }
 

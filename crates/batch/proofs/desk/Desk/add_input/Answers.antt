@@ -17,12 +17,12 @@ returns-then-len-ge6 c =
     let n = counted d.inputs in
     record { value = (refl, inl (input_too_many (view d) c.args.name.now c.args.low c.args.high free (search rules))) }
 
-pub returns-in-ok-add : goal.returns-in-ok-add
-returns-in-ok-add c =
+pub returns-in_ok-add-in-Ok : goal.returns-in_ok-add-in-Ok
+returns-in_ok-add-in-Ok c =
     let d = c.args.self.now in
     let free : is_some (place_of (names (view d)) c.args.name.now) ≡ false = rw (names_are d) (search rules) in
     let n = counted d.inputs in
-    record { value = input_comes (view d) c.args.name.now c.args.low c.args.high free (search rules) _ c.scale.ensures.value c.in-Ok.variable _ c.in-Ok.ensures.value c.in-ok-add.ensures.after }
+    record { value = input_comes (view d) c.args.name.now c.args.low c.args.high free (search rules) _ c.scale.ensures.value c.in-Ok.variable _ c.in-Ok.ensures.value c.in_ok-add-in-Ok.ensures.after }
 
 pub returns-in-Err : goal.returns-in-Err
 returns-in-Err c =

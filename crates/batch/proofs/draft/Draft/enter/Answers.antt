@@ -17,7 +17,7 @@ returns-then-not-all_fit c =
 pub invariant_of-self : goal.invariant_of-self
 invariant_of-self c =
     let f = fronts _ _ _ _ c.args.self.now.long c.in-Some.ensures.value c.in-Some.ensures.after in
-    (f.long, (f.few, (sound _ c.args.term _ _ f c.args.self.now.sound (record { six = search rules; fit = c.requires }) (sym c.all_fit.ensures.value ∙ c.if-not-all_fit.false), tt)))
+    record { long = f.long; few = f.few; sound = sound _ c.args.term _ _ f c.args.self.now.sound (record { six = search rules; fit = c.requires }) (sym c.all_fit.ensures.value ∙ c.if-not-all_fit.false) }
 
 pub returns : goal.returns
 returns c =

@@ -6,7 +6,7 @@ pub invariant_of-result : goal.invariant_of-result
 invariant_of-result c =
     let old = c.args.self.now in
     let f = dropped_front old.terms _ old.count _ old.long old.few c.swept-count.ensures.value c.swept-count.ensures.after in
-    (f.long, (f.few, (rw f.front (dropped-canonical (terms_of old) old.sound), tt)))
+    record { long = f.long; few = f.few; sound = rw f.front (dropped-canonical (terms_of old) old.sound) }
 
 pub returns : goal.returns
 returns c =
