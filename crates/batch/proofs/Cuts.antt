@@ -1,10 +1,10 @@
 -- A text that is cut at the first place of a byte: what stands before it lacks the byte, and what stands after it is cut in turn.
-use Rattle.std.proofs.Common.{◌≡◌, ℕ, suc, ◌+◌, ◌<◌, Bool, true, false, cond, eqb, List, [], ◌∷◌, ◌++◌, map, length, get_or, take, drop, Some, None, filter, Option, sym, refl, ap, ◌∙◌, subst, append_assoc, arith, length-drop, take-append-drop, Bor, ne_eqb, MatchOption}
+use Rattle.std.proofs.Common.{◌≡◌, ℕ, suc, ◌<◌, Bool, true, false, cond, eqb, List, [], ◌∷◌, ◌++◌, length, get_or, take, drop, Some, None, Option, sym, refl, ap, ◌∙◌, subst, arith, length-drop, take-append-drop, Bor, ne_eqb, MatchOption}
 use Rattle.std.specs.declared.str.Split.{Split}
 use Rattle.std.specs.Str.Pattern.{FindsChar, HasCharAt}
 use Rattle.std.specs.Str.Iter.{split_text, split_has_more, split_pattern, split_steps}
 use Rattle.std.proofs.lemmas.Str.Pattern.{NoCharPasses-char, drop_at_char}
-use Rattle.batch.specs.Words.{Text, uncommented, onto, pieces, some}
+use Rattle.batch.specs.Words.{Text, uncommented, onto, pieces}
 
 -- the byte c is not in bs
 abbrev pub Lacks : ℕ → Text → Type 0

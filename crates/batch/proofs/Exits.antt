@@ -1,5 +1,5 @@
 -- A result read as text goes on where the call before it answered, and ends where it objected.
-use Rattle.std.proofs.Common.{◌≡◌, IsErrAnd, IfOk, Ok, Err, Result, sym, refl, ap, ◌∙◌}
+use Rattle.std.proofs.Common.{◌≡◌, IsErrAnd, IfOk, Ok, Err, Result, ap, ◌∙◌}
 use Rattle.std.proofs.lemmas.Result.{err_from_is_err_and}
 use Rattle.interval.specs.Reason.{and_then}
 use Rattle.batch.specs.declared.fault.Fault.{Fault}

@@ -1,5 +1,5 @@
 -- What a slice of 40 places holds once a term has entered the terms in its front.
-use Rattle.std.proofs.Common.{◌≡◌, ℕ, ◌-◌, ◌≤◌, Bool, true, false, cond, leb, List, ◌++◌, length, take, drop, Some, None, Ok, Err, Option, sym, refl, ap, ◌∙◌, subst, true≢false, arith, length-append, length-drop, length-take, rules, le-leb, leb-true}
+use Rattle.std.proofs.Common.{◌≡◌, ℕ, ◌-◌, ◌≤◌, Bool, true, false, leb, List, length, take, drop, Some, None, Ok, Err, sym, ap, ◌∙◌, subst, arith, length-append, length-drop, length-take, le-leb, leb-true}
 use native.Mathlib.Nat.{sub-zero}
 use lib.Seq.{take-append_seam}
 use Rattle.interval.specs.declared.reason.Reason.TheVariants.{TooManyMonomials, DoesNotFit}

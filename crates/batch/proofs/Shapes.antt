@@ -1,5 +1,5 @@
 -- What is said by lists of no word, of one, of three, and of a first word and the rest.
-use Rattle.std.proofs.Common.{◌≡◌, ℕ, ◌-◌, ◌<◌, true, false, ◌&&◌, List, [], ◌∷◌, map, length, get_or, take, drop, None, Ok, Err, codes, Result, sym, refl, ap, ◌∙◌, arith, length-drop, take_all, rules}
+use Rattle.std.proofs.Common.{◌≡◌, ℕ, ◌-◌, ◌<◌, true, false, ◌&&◌, List, [], ◌∷◌, map, length, get_or, take, drop, None, Ok, Err, codes, sym, refl, ap, arith, length-drop, take_all, rules}
 use Rattle.std.specs.Char.{is_ascii_alphabetic}
 use Rattle.std.specs.Str.{bytes_eq}
 use Rattle.std.proofs.lemmas.Slice.Eq.{bytes_eq-Decides}

@@ -1,7 +1,6 @@
 -- What the machine of statements says at each way out of the desk's methods.
-use Rattle.std.proofs.Common.{◌≡◌, ℕ, ◌<◌, ◌≤◌, Bool, true, false, ◌&&◌, eqb, ltb, leb, List, [], ◌∷◌, ◌++◌, map, length, is_some, IsErrAnd, Some, None, Ok, Err, vec_items, vec_len, string_bytes, Option, Result, sym, refl, ap, ◌∙◌, subst, inl, arith, rules, le-ltb, lt-ltb, eq-eqb, ne_eqb, le-leb}
+use Rattle.std.proofs.Common.{◌≡◌, ℕ, ◌<◌, ◌≤◌, true, false, ◌&&◌, ltb, leb, List, [], ◌∷◌, ◌++◌, map, length, is_some, IsErrAnd, Some, None, Ok, Err, vec_items, vec_len, string_bytes, Result, sym, refl, ap, ◌∙◌, inl, le-ltb, lt-ltb, eq-eqb, ne_eqb, le-leb}
 use lib.Ieee.{Float}
-use borrow.Author.Tests.{lt-leb}
 use Rattle.std.specs.Float.{float_is_finite}
 use Rattle.std.proofs.lemmas.List.{length-map}
 use Rattle.std.proofs.lemmas.Bool.{and_parts}

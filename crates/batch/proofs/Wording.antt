@@ -1,12 +1,12 @@
 -- A loop over the pieces of a line keeps: the words found, and those among the pieces still to come, are the line's words.
-use Rattle.std.proofs.Common.{◌≡◌, ℕ, ◌<◌, Bool, true, false, cond, List, [], ◌∷◌, ◌++◌, map, length, Some, None, filter, Option, sym, refl, ap, ◌∙◌, subst, append_assoc, append-nil, arith, Bor}
+use Rattle.std.proofs.Common.{◌≡◌, ℕ, ◌<◌, true, List, [], ◌∷◌, ◌++◌, map, length, Some, None, filter, sym, ap, ◌∙◌, subst, append_assoc, append-nil, arith, Bor}
 use mathlib.Core.List.{map-append}
 use Rattle.std.specs.declared.str.Split.{Split}
 use Rattle.std.specs.Str.Iter.{split_text, split_has_more, split_pattern}
 use Rattle.std.specs.List.{AllByRecursion as All}
 use Rattle.std.proofs.ByRecursion.{All-push}
 use Rattle.batch.specs.declared.words.Word.{Word}
-use Rattle.batch.specs.Words.{Text, token, Reads, uncommented, pieces, some, words}
+use Rattle.batch.specs.Words.{Text, token, Reads, uncommented, some, words}
 use Rattle.batch.proofs.Cuts.{Steps, left, left_some, left_none}
 
 abbrev pub texts : List Word → List Text

@@ -1,5 +1,5 @@
 -- Exact decimal numbers, and how they are written. Assumes nothing.
-use Rattle.std.specs.Prelude.{ℕ, zero, suc, ◌*◌, ◌/◌, ◌%◌, ◌^◌, cond, List, [], ◌∷◌, ◌++◌, ℤ, pos, decimal, ◌==◌, int_lt, unsigned_abs}
+use Rattle.std.specs.Prelude.{ℕ, zero, suc, ◌*◌, ◌/◌, ◌%◌, ◌^◌, cond, [], ◌∷◌, ◌++◌, ℤ, pos, decimal, ◌==◌, int_lt, unsigned_abs}
 use Rattle.std.specs.Fmt.{sign_text}
 use Rattle.batch.specs.declared.decimal.Decimal.{Decimal}
 use Rattle.batch.specs.Words.{Text}

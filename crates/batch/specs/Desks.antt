@@ -1,5 +1,5 @@
 -- What a desk holds, and what each statement changes. Assumes nothing.
-use Rattle.std.specs.Prelude.{◌≡◌, ℕ, Bool, true, false, cond, ◌&&◌, ◌⊎◌, List, [], ◌∷◌, ◌++◌, map, length, is_some, Some, None, Ok, Err, Option, Result, ◌==◌, nat_le, nat_lt, Float}
+use Rattle.std.specs.Prelude.{◌≡◌, ℕ, Bool, cond, ◌&&◌, ◌⊎◌, List, [], ◌∷◌, ◌++◌, map, length, is_some, Ok, Err, Result, ◌==◌, nat_le, nat_lt, Float}
 use Rattle.interval.specs.declared.reason.Reason.{Reason}
 use Rattle.interval.specs.declared.reason.Reason.TheVariants.{OrderOutOfRange, VariablesOutOfRange, ConstantDoesNotFit}
 use Rattle.interval.specs.declared.variable.Variable.{Variable}

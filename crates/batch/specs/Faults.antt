@@ -1,5 +1,5 @@
 -- What can be wrong with a line, and its words. Assumes nothing.
-use Rattle.std.specs.Prelude.{List, [], ◌∷◌, ◌++◌, codes, decimal}
+use Rattle.std.specs.Prelude.{[], ◌∷◌, ◌++◌, codes, decimal}
 use Rattle.interval.specs.declared.reason.Reason.{Reason}
 use Rattle.interval.specs.Reason.{number, words}
 use Rattle.batch.specs.declared.fault.Mistake.{Mistake}

@@ -1,6 +1,5 @@
 -- Inputs by their names. Assumes nothing.
-use Rattle.std.specs.Prelude.{ℕ, zero, suc, ◌+◌, cond, List, [], ◌∷◌, map, Some, None, vec_items, string_bytes, Option}
-use Rattle.std.specs.Option.{option_map}
+use Rattle.std.specs.Prelude.{ℕ, ◌+◌, cond, List, [], ◌∷◌, map, Some, None, vec_items, string_bytes, Option}
 use Rattle.std.specs.Str.{bytes_eq}
 use Rattle.interval.specs.declared.variable.Variable.{Variable}
 use Rattle.batch.specs.declared.inputs.Input.{Input}

@@ -1,5 +1,5 @@
 -- The words of a line. Assumes nothing.
-use Rattle.std.specs.Prelude.{◌≡◌, ℕ, Bool, true, false, cond, List, [], ◌∷◌, map, filter, Option, Result, ◌==◌, Float}
+use Rattle.std.specs.Prelude.{ℕ, Bool, true, false, cond, List, [], ◌∷◌, filter, Option, ◌==◌, Float}
 use Rattle.std.specs.Float.{binary64}
 use Rattle.std.specs.Option.{ok_or}
 use Rattle.std.specs.Float.Parse.{ParsesFloat}

@@ -16,7 +16,7 @@ use Rattle.interval.proofs.Sizes.{fits-sized}
 use Rattle.polynomial.specs.Value.{Units}
 use Rattle.polynomial.specs.Method.{MethodMeaning}
 use Rattle.taylor.specs.Box.{InBox, units}
-use Rattle.taylor.specs.Model.{Model, tested}
+use Rattle.taylor.specs.Model.{Model}
 use Rattle.taylor.specs.Form.{Normal}
 use Rattle.taylor.specs.Arithmetic.{constant, variable_model}
 use Rattle.taylor.specs.Product.{Worked, power}

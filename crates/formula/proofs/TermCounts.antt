@@ -15,7 +15,7 @@ use Rattle.polynomial.specs.Method.{MethodMeaning}
 use Rattle.polynomial.specs.Terms.{all_fit}
 use Rattle.taylor.specs.Model.{Model, tested}
 use Rattle.taylor.specs.Arithmetic.{constant, one, variable_model, sum}
-use Rattle.taylor.specs.Product.{pairs, Worked, worked, gathered, three_fit, product, product_pairs, times_worked, raised, power}
+use Rattle.taylor.specs.Product.{Worked, worked, gathered, three_fit, product, product_pairs, times_worked, raised, power}
 use Rattle.taylor.proofs.Drafts.{length_pairs}
 use Rattle.taylor.proofs.Results.{same-value, and_then_ok, require_ok}
 use Rattle.formula.specs.Work.{pairless}

@@ -9,7 +9,7 @@ use Rattle.interval.specs.Interval.{interval, zero_interval, plus, even_reach, f
 use Rattle.interval.proofs.Sizes.{sized_weaken, sized-even, sized-full}
 use Rattle.table.specs.Monomial.{Monomial, degree, even}
 use Rattle.polynomial.specs.declared.term.Term.{Term}
-use Rattle.polynomial.specs.Reach.{term, reach}
+use Rattle.polynomial.specs.Reach.{reach}
 use Rattle.polynomial.specs.Method.{FitTerm, Polynomial, plain}
 use Rattle.polynomial.proofs.Coefficients.{unread}
 use Rattle.ranging.specs.Addable.{Addable}

@@ -1,12 +1,12 @@
 -- The laws of fractions, each read off the rational numbers. Assumes nothing.
-use mathlib.Core.Path.{◌≡◌, sym, ◌∙◌, ap}
-use mathlib.Core.Logic.{◌⊎◌, inl, inr}
-use Prim.Native.Nat.{ℕ, ◌*◌}
+use mathlib.Core.Path.{sym, ◌∙◌, ap}
+use mathlib.Core.Logic.{inl, inr}
+use Prim.Native.Nat.{◌*◌}
 use lib.IntN.{ℤ, pos, negsuc}
 use Rattle.rational.specs.Fraction.{Fraction, whole, over, powᶠ, ◌+ᶠ◌, ◌-ᶠ◌, ◌*ᶠ◌, ◌≤ᶠ◌}
 use Rattle.rational.specs.Laws.{Reflexive, Transitive, Total, Antisymmetric, SumMonotone, DifferenceMonotone, ProductMonotone, QuotientExact, UnitNumber, PowersStay, EvenPowersStay}
 use Rattle.rational.proofs.Solver.{lit, ◌⊝◌, ◌≈◌, ring1}
-use Rattle.rational.proofs.Rational.{ℚ, ⟦◌⟧, ◌-ℚ◌, ◌*ℚ◌, of, of_is, add_is, sub_is, mul_is, over_is, eq_out, le_in, le_out, ◌≤ℚ◌, NonNeg, ℚ_ring}
+use Rattle.rational.proofs.Rational.{ℚ, ⟦◌⟧, ◌*ℚ◌, of, of_is, add_is, sub_is, mul_is, over_is, eq_out, le_in, le_out, ◌≤ℚ◌, NonNeg, ℚ_ring}
 use Rattle.rational.proofs.Order.{≤ℚ_refl, ≤ℚ_trans, ≤ℚ_total, ≤ℚ_antisym, ≤ℚ_add, ≤ℚ_neg, ≤ℚ_mul}
 use Rattle.rational.proofs.Powers.{Unital, pow_is, unital_pow, pow_even_partial}
 

@@ -1,5 +1,5 @@
 -- From the places of a record to the model in it. Assumes nothing.
-use Rattle.std.proofs.Common.{◌≡◌, ℕ, ◌≤◌, not, List, [], ◌∷◌, length, take, set, replicate, sym, refl, ap, ◌∙◌, arith}
+use Rattle.std.proofs.Common.{◌≡◌, ℕ, not, List, [], ◌∷◌, length, take, set, replicate, refl, ap, ◌∙◌, arith}
 use Rattle.interval.specs.declared.marks.Interval.{Interval}
 use Rattle.interval.specs.declared.variable.Variable.{Variable}
 use Rattle.interval.specs.Interval.{interval, zero_interval, is_zero}
@@ -11,7 +11,7 @@ use Rattle.table.proofs.Packing.{packs-kept}
 use Rattle.polynomial.specs.declared.term.Term.{Term}
 use Rattle.polynomial.specs.Reach.{term, zero_term, dropped}
 use Rattle.taylor.specs.declared.model.ModelRecord.{ModelRecord}
-use Rattle.taylor.specs.Model.{Model, model, packed}
+use Rattle.taylor.specs.Model.{model, packed}
 use Rattle.taylor.specs.Arithmetic.{constant, variable_model}
 
 -- forty places, of which the first count hold ts and the others nothing

@@ -8,7 +8,7 @@ use Rattle.interval.specs.Interval.{interval}
 use Rattle.interval.specs.Kind.{KindMeaning}
 use Rattle.polynomial.specs.Value.{Units}
 use Rattle.polynomial.specs.Method.{MethodMeaning, Polynomial}
-use Rattle.taylor.specs.Model.{Model, model}
+use Rattle.taylor.specs.Model.{Model}
 use Rattle.taylor.specs.Arithmetic.{one}
 use Rattle.taylor.specs.Product.{Worked, worked, times_worked, raised, power}
 use Rattle.taylor.proofs.Results.{same-value, and_then_ok}

@@ -10,7 +10,6 @@ use Rattle.interval.specs.declared.marks.Interval.{Interval}
 use Rattle.interval.specs.declared.reason.Reason.{Reason}
 use Rattle.interval.specs.declared.reason.Reason.TheVariants.{TooManyMonomials}
 use Rattle.interval.specs.Interval.{limit, Sized, Summable, plus, negated}
-use Rattle.interval.specs.Reason.{require}
 use Rattle.interval.proofs.Sizes.{sized_weaken}
 use Rattle.table.specs.Order.{by_degree}
 use Rattle.table.specs.Slice.{over}

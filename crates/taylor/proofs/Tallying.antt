@@ -14,7 +14,7 @@ use Rattle.taylor.specs.declared.model.ModelRecord.{ModelRecord}
 use Rattle.taylor.specs.declared.gathering.TallyRecord.{TallyRecord}
 use Rattle.taylor.specs.Model.{Model, unpacked}
 use Rattle.taylor.specs.Form.{DraftTerm, Gathering}
-use Rattle.taylor.specs.Product.{kept, keep, cut, gather}
+use Rattle.taylor.specs.Product.{keep, cut, gather}
 use Rattle.taylor.specs.Gathering.{held_hull, held, tallied, roomy, tally_of, InPlaces, Open, Tallies, Took}
 use Rattle.taylor.proofs.Sizes.{sized_zero}
 use Rattle.taylor.proofs.Rows.{took_all}

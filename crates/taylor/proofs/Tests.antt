@@ -12,7 +12,7 @@ use Rattle.table.specs.Monomial.{degree}
 use Rattle.polynomial.specs.declared.term.Term.{Term}
 use Rattle.polynomial.specs.Method.{MethodMeaning, Polynomial, FitTerm}
 use Rattle.polynomial.specs.Terms.{all_fit}
-use Rattle.taylor.specs.Model.{Model, model, full_range, tested}
+use Rattle.taylor.specs.Model.{Model, full_range, tested}
 use Rattle.taylor.specs.Form.{NormalTerm, Normal, Degrees, Tested}
 use Rattle.taylor.specs.Arithmetic.{one}
 use Rattle.taylor.specs.Product.{Worked, worked, times_worked, raised, power}

@@ -15,7 +15,7 @@ use Rattle.table.proofs.Growth.{all_entered}
 use Rattle.polynomial.specs.declared.term.Term.{Term}
 use Rattle.polynomial.specs.Reach.{term, reach, joined}
 use Rattle.polynomial.specs.Method.{MethodMeaning}
-use Rattle.taylor.specs.Model.{Model, model, zero_model}
+use Rattle.taylor.specs.Model.{Model, zero_model}
 use Rattle.taylor.specs.Arithmetic.{constant, one, negated_model}
 use Rattle.taylor.specs.Product.{Worked, worked, pairs, kept, all_kept, keep, gathered, product, product_pairs, times_worked, raised, power, gather}
 use Rattle.taylor.specs.Exactness.{Whole, Point, Pointed, WholeExact}

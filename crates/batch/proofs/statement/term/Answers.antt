@@ -1,4 +1,4 @@
-use Rattle.std.proofs.Common.{◌≡◌, sym, ◌∙◌, rules}
+use Rattle.std.proofs.Common.{sym, ◌∙◌, rules}
 use Rattle.batch.proofs.Exits.{ends, goes_on}
 use Rattle.batch.proofs.Shapes.{term_none, term-some}
 use Rattle.batch.proofs.statement.term.Goals as goal

@@ -1,6 +1,5 @@
 use Rattle.std.proofs.Common.{sym, ap, ◌∙◌, subst}
 use Rattle.interval.specs.Interval.{limit}
-use Rattle.taylor.specs.declared.model.ModelRecord.{ModelRecord}
 use Rattle.taylor.specs.Model.{unpacked}
 use Rattle.taylor.specs.Arithmetic.{sum, negated_model}
 use Rattle.taylor.specs.Record.{Held, recorded}

@@ -1,4 +1,3 @@
-use Rattle.std.proofs.Common.{rules}
 use Rattle.std.proofs.Output.{has_written_of_eq}
 use Rattle.batch.proofs.Figures.{text-whole, text_parted}
 use Rattle.batch.proofs.decimal.DecimalDisplay.fmt.Goals as goal

@@ -1,4 +1,4 @@
-use Rattle.std.proofs.Common.{◌≡◌, true, false, is_some, sym, refl, ap, ◌∙◌, subst, inl, rules}
+use Rattle.std.proofs.Common.{◌≡◌, true, false, is_some, refl, inl, rules}
 use Rattle.batch.specs.Desks.{view, names}
 use Rattle.batch.specs.Inputs.{place_of}
 use Rattle.batch.proofs.Taking.{counted, names_are, input_taken_name, input_too_many, input_refused, input_comes}

@@ -1,5 +1,4 @@
-use Rattle.std.proofs.Common.{◌≡◌, refl, ap, inl}
-use Rattle.batch.specs.DraftTerms.{terms_of}
+use Rattle.std.proofs.Common.{refl, ap, inl}
 use Rattle.batch.specs.Desks.{view, with_terms}
 use Rattle.batch.proofs.Taking.{objected, hull-fit, names_are, term_unfit, term_objected, term-refused, term_enters}
 use Rattle.batch.proofs.desk.Desk.add_term.Goals as goal

@@ -1,4 +1,4 @@
-use Rattle.std.proofs.Common.{[], ◌∷◌, ◌++◌, map, vec_items, string_bytes, ap, ◌∙◌}
+use Rattle.std.proofs.Common.{[], ◌∷◌, ◌++◌, map, vec_items, ap, ◌∙◌}
 use mathlib.Core.List.{map-append}
 use Rattle.batch.specs.Inputs.{named}
 use Rattle.batch.proofs.inputs.Inputs.add.Goals as goal
