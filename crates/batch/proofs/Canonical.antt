@@ -1,7 +1,7 @@
 -- A canonical list of terms ascends and its coefficients fit; a term that enters one keeps it so, if every coefficient still fits.
 use Rattle.std.proofs.Common.{◌≡◌, ℕ, ◌+◌, ◌<◌, Bool, true, false, ◌&&◌, List, [], ◌∷◌, length, get_or, drop, ◌≤ℤ◌, Ordering, Less, Equal, Greater, sym, refl, ap, ◌∙◌, true≢false, arith, rules}
 use Rattle.std.specs.Ordering.{is_lt}
-use Rattle.std.specs.List.{AllByRecursion as All}
+use Rattle.std.specs.List.{AllByRecursion}
 use Rattle.std.proofs.lemmas.List.{at_drop_more}
 use Rattle.std.proofs.lemmas.Int.{ints}
 use Rattle.std.proofs.lemmas.Bool.{and_parts, and_from}
@@ -48,13 +48,13 @@ ascends (t ∷ ts) e =
     let p = and_parts (fitting t && before t ts) (canonical ts) e in
     (next_is t ts (and_parts (fitting t) (before t ts) p.0).1, ascends ts p.1)
 
-pub fitted : (ts : List Term) → canonical ts ≡ true → All Fitting ts
+pub fitted : (ts : List Term) → canonical ts ≡ true → AllByRecursion Fitting ts
 fitted [] e = tt
 fitted (t ∷ ts) e =
     let p = and_parts (fitting t && before t ts) (canonical ts) e in
     (fitting_is t (and_parts (fitting t) (before t ts) p.0).0, fitted ts p.1)
 
-pub canonical_from : (ts : List Term) → Rises ts → All Fitting ts → canonical ts ≡ true
+pub canonical_from : (ts : List Term) → Rises ts → AllByRecursion Fitting ts → canonical ts ≡ true
 canonical_from [] a f = refl
 canonical_from (t ∷ ts) a f =
     and_from (fitting t && before t ts) (canonical ts) (and_from (fitting t) (before t ts) (fitting_from t f.0) (next_from t ts a.0)) (canonical_from ts a.1 f.1)
@@ -83,20 +83,20 @@ shaped t f = record { six = f.six; order = f.fit.order }
 shaped_joined : (t u : Term) → Shaped t → Shaped u → Shaped (joined t u)
 shaped_joined t u a b = let p = a.order in let q = b.order in record { six = a.six; order = omega (arith, ints) }
 
-shaped_all : (ts : List Term) → All Fitting ts → All Shaped ts
+shaped_all : (ts : List Term) → AllByRecursion Fitting ts → AllByRecursion Shaped ts
 shaped_all [] f = tt
 shaped_all (t ∷ ts) f = (shaped t f.0, shaped_all ts f.1)
 
-with_shaped : (ts : List Term) (t : Term) → All Shaped ts → Shaped t → All Shaped (with_term ts t)
+with_shaped : (ts : List Term) (t : Term) → AllByRecursion Shaped ts → Shaped t → AllByRecursion Shaped (with_term ts t)
 with_shaped [] t f s = (s, tt)
 with_shaped (u ∷ us) t f s = go (rank_monomials u.monomial t.monomial) (with_shaped us t f.1 s)
   where
-    go : (r : Ordering) → All Shaped (with_term us t) → All Shaped (by_rank r (u ∷ with_term us t) (joined u t ∷ us) (t ∷ u ∷ us))
+    go : (r : Ordering) → AllByRecursion Shaped (with_term us t) → AllByRecursion Shaped (by_rank r (u ∷ with_term us t) (joined u t ∷ us) (t ∷ u ∷ us))
     go Less rest = (f.0, rest)
     go Equal rest = (shaped_joined u t f.0 s, f.1)
     go Greater rest = (s, f)
 
-fitting_all : (ts : List Term) → All Shaped ts → all_fit ts ≡ true → All Fitting ts
+fitting_all : (ts : List Term) → AllByRecursion Shaped ts → all_fit ts ≡ true → AllByRecursion Fitting ts
 fitting_all [] s e = tt
 fitting_all (t ∷ ts) s e =
     let p = and_parts (fits t.coefficient) (all_fit ts) e in
@@ -111,6 +111,6 @@ with_term_canonical ts t c f e =
 summable : (i : Interval) → Fits i → Summable i
 summable i f = record { low = omega (arith, ints, f.low); order = f.order; high = omega (arith, ints, f.high) }
 
-pub joinable : (ts : List Term) (t : Term) → All Fitting ts → Fits t.coefficient → All (λ u. Summable u.coefficient × Summable t.coefficient) ts
+pub joinable : (ts : List Term) (t : Term) → AllByRecursion Fitting ts → Fits t.coefficient → AllByRecursion (λ u. Summable u.coefficient × Summable t.coefficient) ts
 joinable [] t f h = tt
 joinable (u ∷ us) t f h = ((summable _ f.0.fit, summable _ h), joinable us t f.1 h)

@@ -3,7 +3,7 @@ use Rattle.std.proofs.Common.{◌≡◌, ℕ, ◌-◌, ◌≤◌, true, not, Lis
 use native.Mathlib.Nat.{sub-zero}
 use lib.ListN.{length-replicate}
 use lib.Seq.{take-append_seam}
-use Rattle.std.specs.List.{AllByRecursion as All}
+use Rattle.std.specs.List.{AllByRecursion}
 use Rattle.std.proofs.ByRecursion.{all_kept_by, kept_by_passes}
 use Rattle.std.proofs.lemmas.List.Filters.{length-filter_both}
 use Rattle.interval.specs.Interval.{is_zero}
@@ -35,7 +35,7 @@ dropped_front old new count n long few size after =
 pub dropped-canonical : (ts : List Term) → canonical ts ≡ true → canonical (dropped ts) ≡ true
 dropped-canonical ts c = canonical_from (dropped ts) (drops_ascend by_degree (λ t. t.monomial) _ ts (ascends ts c)) (all_kept_by _ Fitting ts (fitted ts c))
 
-both : (ts : List Term) → All Fitting ts → All (λ t. not (is_zero t.coefficient) ≡ true) ts → All FitTerm ts
+both : (ts : List Term) → AllByRecursion Fitting ts → AllByRecursion (λ t. not (is_zero t.coefficient) ≡ true) ts → AllByRecursion FitTerm ts
 both [] f s = tt
 both (t ∷ ts) f s = (record { six = f.0.six; fit = f.0.fit; some = search rules }, both ts f.1 s.1)
 

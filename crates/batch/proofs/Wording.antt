@@ -3,7 +3,7 @@ use Rattle.std.proofs.Common.{◌≡◌, ℕ, ◌<◌, true, List, [], ◌∷◌
 use mathlib.Core.List.{map-append}
 use Rattle.std.specs.declared.str.Split.{Split}
 use Rattle.std.specs.Str.Iter.{split_text, split_has_more, split_pattern}
-use Rattle.std.specs.List.{AllByRecursion as All}
+use Rattle.std.specs.List.{AllByRecursion}
 use Rattle.std.proofs.ByRecursion.{All-push}
 use Rattle.batch.specs.declared.words.Word.{Word}
 use Rattle.batch.specs.Words.{Text, token, Reads, uncommented, some, words}
@@ -15,7 +15,7 @@ texts ws = map (λ w. (token w).text) ws
 pub record Sofar (line : Text) (s : Split ℕ) (found : List Word) : Type 0 where
   pub callee : split_pattern s ≡ 32
   pub rest : texts found ++ filter some (left s) ≡ words line
-  pub reads : All (λ w. Reads (token w)) found
+  pub reads : AllByRecursion (λ w. Reads (token w)) found
 
 pub begun : (line : Text) (s : Split ℕ) (found : List Word) → split_pattern s ≡ 32 → split_has_more s ≡ true → split_text s ≡ uncommented line → found ≡ [] → Sofar line s found
 unfolding words

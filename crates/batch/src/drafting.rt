@@ -1,6 +1,6 @@
 // How terms come into a polynomial.
 ghost use Rattle.std.specs.Prelude.{◌≡◌, ◌≤◌, [], length, take, is_some, is_ok, if◌then◌else◌};
-ghost use Rattle.std.specs.List.{AllByRecursion as All};
+ghost use Rattle.std.specs.List.{AllByRecursion};
 ghost use Rattle.interval.specs.Interval.{Fits, Summable};
 ghost use Rattle.polynomial.specs.Method.{Ranges};
 ghost use Rattle.polynomial.specs.Reach.{dropped};
@@ -28,7 +28,7 @@ fn all_fit(terms: &[Term]) -> bool
 // The first `count` terms are in use. Answers how many are in use then, or None where no place is left.
 fn entered(terms: &mut [Term], count: usize, term: Term) -> Option<usize>
     requires room { count ≤ length terms.old }
-    requires joins { All (λ u. Summable u.coefficient × Summable term.coefficient) (take count terms.old) }
+    requires joins { AllByRecursion (λ u. Summable u.coefficient × Summable term.coefficient) (take count terms.old) }
     ensures value { result ≡ new_count (length terms.old) (with_term (take count terms.old) term) }
     ensures after { terms.new ≡ (if is_some result then over (with_term (take count terms.old) term) terms.old else terms.old) }
 {

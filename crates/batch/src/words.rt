@@ -1,6 +1,6 @@
 // The words of a line.
 ghost use Rattle.std.specs.Prelude.{◌≡◌, map, IfOk};
-ghost use Rattle.std.specs.List.{AllByRecursion as All};
+ghost use Rattle.std.specs.List.{AllByRecursion};
 ghost use Rattle.batch.specs.Words.{token, Reads, words, uncommented};
 
 use std::alloc::{AllocError, Global};
@@ -37,7 +37,7 @@ fn before_comment(line: &str) -> &str
 // Words stand between blanks; `#` begins a comment.
 pub fn words_of<'a>(heap: Global, line: &'a str) -> Result<Vec<Word<'a>>, AllocError>
     ensures value { IfOk result (λ v. map (λ w. (token w).text) v.items ≡ words line.now) }
-    ensures reads { IfOk result (λ v. All (λ w. Reads (token w)) v.items) }
+    ensures reads { IfOk result (λ v. AllByRecursion (λ w. Reads (token w)) v.items) }
 {
     let mut found = Vec::new(heap);
     for piece in before_comment(line).split(' ') {

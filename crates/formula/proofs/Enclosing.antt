@@ -1,6 +1,6 @@
 -- A formula that is worked alone is enclosed: the two laws of work, over no lines. Assumes nothing.
 use Rattle.std.proofs.Common.{◌≡◌, ℕ, ◌+◌, ◌≤◌, true, leb, List, [], ◌∷◌, length, Some, Ok, sym, refl, subst, arith}
-use Rattle.std.specs.List.{AllByRecursion as All}
+use Rattle.std.specs.List.{AllByRecursion}
 use Rattle.std.proofs.lemmas.List.{length-map}
 use Rattle.std.proofs.lemmas.Bool.{and_parts, leb-true}
 use Rattle.rational.specs.Fraction.{Fraction}
@@ -40,7 +40,7 @@ accepted_is S e q =
     sym (same-value q3)
 
 -- ends that pass their tests make a box of sound variables
-pub tested_sound : (k : KindMeaning) (n : ℕ) (es : List Ends) → ends_tested k.scale n es ≡ Ok tt → All (Sound k.scale) (box_of k es)
+pub tested_sound : (k : KindMeaning) (n : ℕ) (es : List Ends) → ends_tested k.scale n es ≡ Ok tt → AllByRecursion (Sound k.scale) (box_of k es)
 tested_sound k n [] q = tt
 tested_sound k n (e ∷ es) q =
     let one = variable_of k.scale e.0 e.1 in
@@ -49,7 +49,7 @@ tested_sound k n (e ∷ es) q =
     (subst (Sound k.scale) (accepted_is k.scale e made) (variable_sound k.scale e.0 e.1 v (sym made)), tested_sound k (n + 1) es rest)
 
 -- with no lines below, a text is built from its own tokens
-own_tokens : (P : Token → Type 0) (ts : List Token) → All P ts → All P (all_named [] ts)
+own_tokens : (P : Token → Type 0) (ts : List Token) → AllByRecursion P ts → AllByRecursion P (all_named [] ts)
 own_tokens P [] h = tt
 own_tokens P (Constant x ∷ ts) h = (h.0, own_tokens P ts h.1)
 own_tokens P (Variable v ∷ ts) h = (h.0, own_tokens P ts h.1)
@@ -72,7 +72,7 @@ module _ (k : KindMeaning) (m : MethodMeaning) (order : ℕ) (ends : List Ends) 
       let L = sound_alone point P in
       (marks k.scale L.value, in_marks k m us w x L, sound_bounds k m us w x L (points_hold (box_of k ends) point P).coordinates)
 
-  alone-exact : Whole k → w.clean ≡ true → All WholeToken (tokens text) → (point : List Fraction) → InBox (box_of k ends) point →
+  alone-exact : Whole k → w.clean ≡ true → AllByRecursion WholeToken (tokens text) → (point : List Fraction) → InBox (box_of k ends) point →
       (v : Fraction) × (formula_marks k.scale point text ≡ Some v) × ExactModel (units (box_of k ends) point) w.model v
   alone-exact K c h point P =
       let us = units (box_of k ends) point in

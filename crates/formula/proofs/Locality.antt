@@ -1,7 +1,7 @@
 -- The work of a text depends on what its tokens name alone: from two grounds of the same order and size that run each of its tokens
 -- alike, it gives the same. Assumes nothing.
 use Rattle.std.proofs.Common.{◌≡◌, ℕ, zero, suc, Bool, true, false, eqb, List, [], ◌∷◌, map, length, get_or, Ok, Err, Result, sym, refl, ap, ◌∙◌, ap₂}
-use Rattle.std.specs.List.{AllByRecursion as All}
+use Rattle.std.specs.List.{AllByRecursion}
 use Rattle.std.proofs.lemmas.List.{length-map}
 use Rattle.std.proofs.lemmas.Bool.{or_parts}
 use Rattle.interval.specs.declared.reason.Reason.{Reason}
@@ -71,18 +71,18 @@ module _ (k : KindMeaning) (m : MethodMeaning) (g h : Ground) (A : Matching g h)
       go (Ok t) = f t
       go (Err c) = refl
 
-  same-items : (s : Stack) (is : List Item) → All (NamesSame g h) (read_tokens is) → run_items k m g s is ≡ run_items k m h s is
+  same-items : (s : Stack) (is : List Item) → AllByRecursion (NamesSame g h) (read_tokens is) → run_items k m g s is ≡ run_items k m h s is
   unfolding run_items
   same-items s [] N = refl
   same-items s (i ∷ is) N = go i.token N (λ t p. same-items t is p)
     where
-      go : (r : Result Token Reason) → All (NamesSame g h) (added r (read_tokens is)) → ((t : Stack) → All (NamesSame g h) (read_tokens is) → run_items k m g t is ≡ run_items k m h t is) →
+      go : (r : Result Token Reason) → AllByRecursion (NamesSame g h) (added r (read_tokens is)) → ((t : Stack) → AllByRecursion (NamesSame g h) (read_tokens is) → run_items k m g t is ≡ run_items k m h t is) →
           and_then (at_place i.place (and_then r (λ t. and_then (admitted k.scale (length g.box) (length g.lines) t) (λ _. run_token k m g s t)))) (λ t. run_items k m g t is)
           ≡ and_then (at_place i.place (and_then r (λ t. and_then (admitted k.scale (length h.box) (length h.lines) t) (λ _. run_token k m h s t)))) (λ t. run_items k m h t is)
       go (Ok t) N f = same_behind i.place is _ _ (same-token s t N.0) (λ u. f u N.1)
       go (Err e) N f = refl
 
-  pub same-work : (text : List ℕ) → All (NamesSame g h) (tokens text) → work k m g text ≡ work k m h text
+  pub same-work : (text : List ℕ) → AllByRecursion (NamesSame g h) (tokens text) → work k m g text ≡ work k m h text
   unfolding work
   same-work text N = ap (λ r. and_then r (λ s. concluded (length text) s s.operands)) (same-items (stack [] 0 true) (items text) N)
 
@@ -102,7 +102,7 @@ module _ (k : KindMeaning) (m : MethodMeaning) (v : ℕ) (marks : List Bool) (g 
   names_same Subtract u = tt
   names_same Multiply u = tt
 
-  all_same : (ts : List Token) → any_uses v marks ts ≡ false → All (NamesSame g h) ts
+  all_same : (ts : List Token) → any_uses v marks ts ≡ false → AllByRecursion (NamesSame g h) ts
   all_same [] u = tt
   all_same (t ∷ ts) u = let (a, b) = or_parts (token_uses v marks t) (any_uses v marks ts) u in (names_same t a, all_same ts b)
 
@@ -136,7 +136,7 @@ module _ (k : KindMeaning) (m : MethodMeaning) (order : ℕ) (box : List Var) (l
   names-alike Subtract = tt
   names-alike Multiply = tt
 
-  all_alike : (ts : List Token) → All (NamesSame (ground order box ls) (ground order box ns)) ts
+  all_alike : (ts : List Token) → AllByRecursion (NamesSame (ground order box ls) (ground order box ns)) ts
   all_alike [] = tt
   all_alike (t ∷ ts) = (names-alike t, all_alike ts)
 

@@ -1,7 +1,7 @@
 -- How many pairs a text can make: at most seven products for each of its tokens, and it has a token for each byte at the most. Assumes
 -- nothing.
 use Rattle.std.proofs.Common.{◌≡◌, ℕ, zero, suc, ◌+◌, ◌*◌, ◌≤◌, Bool, true, ltb, leb, List, [], ◌∷◌, length, get_or, Ok, Err, Result, subst, subst₂, arith}
-use Rattle.std.specs.List.{AllByRecursion as All}
+use Rattle.std.specs.List.{AllByRecursion}
 use Rattle.std.proofs.lemmas.Bool.{leb-true, cond_both}
 use Rattle.interval.specs.declared.reason.Reason.{Reason}
 use Rattle.interval.specs.Hull.{hull}
@@ -26,10 +26,10 @@ Small w = Few w.model × (w.pairs ≤ 11200)
 
 -- after so many tokens every operand has few terms, and seven products a token are the most
 pub record Modest (n : ℕ) (s : Stack) : Type 0 where
-  pub few : All Few s.operands
+  pub few : AllByRecursion Few s.operands
   pub pairs : s.pairs ≤ n * 11200
 
-put_modest : (n : ℕ) (s : Stack) (rest : List Model) (r : Result Worked Reason) {t : Stack} → s.pairs ≤ n * 11200 → All Few rest → ((w : Worked) → r ≡ Ok w → Small w) →
+put_modest : (n : ℕ) (s : Stack) (rest : List Model) (r : Result Worked Reason) {t : Stack} → s.pairs ≤ n * 11200 → AllByRecursion Few rest → ((w : Worked) → r ≡ Ok w → Small w) →
     put s rest r ≡ Ok t → Modest (suc n) t
 put_modest n s rest r {t} h f g q =
     let (w, e, q1) = and_then_ok r _ q in
@@ -41,23 +41,23 @@ push_modest m n s M b S f q =
     let (a, q1) = require_ok (ltb (length s.operands) 8) _ _ q in
     put_modest n s s.operands (pairless m M b) S.pairs S.few (λ w e. pairless-few m M b f e) q1
 
-unary_modest : (n : ℕ) (s : Stack) (Ms : List Model) (f : Model → Result Worked Reason) {t : Stack} → s.pairs ≤ n * 11200 → All Few Ms →
+unary_modest : (n : ℕ) (s : Stack) (Ms : List Model) (f : Model → Result Worked Reason) {t : Stack} → s.pairs ≤ n * 11200 → AllByRecursion Few Ms →
     ((M : Model) (w : Worked) → Few M → f M ≡ Ok w → Small w) → unary s Ms f ≡ Ok t → Modest (suc n) t
 unary_modest n s [] f h F g q = absurd (not_refused q)
 unary_modest n s (x ∷ rest) f h F g q = put_modest n s rest (f x) h F.1 (λ w e. g x w F.0 e) q
 
-binary_modest : (n : ℕ) (s : Stack) (Ms : List Model) (f : Model → Model → Result Worked Reason) {t : Stack} → s.pairs ≤ n * 11200 → All Few Ms →
+binary_modest : (n : ℕ) (s : Stack) (Ms : List Model) (f : Model → Model → Result Worked Reason) {t : Stack} → s.pairs ≤ n * 11200 → AllByRecursion Few Ms →
     ((M N : Model) (w : Worked) → Few M → Few N → f M N ≡ Ok w → Small w) → binary s Ms f ≡ Ok t → Modest (suc n) t
 binary_modest n s [] f h F g q = absurd (not_refused q)
 binary_modest n s (y ∷ []) f h F g q = absurd (not_refused q)
 binary_modest n s (y ∷ (x ∷ rest)) f h F g q = put_modest n s rest (f x y) h F.1.1 (λ w e. g x y w F.1.0 F.0 e) q
 
-few-line : (ls : List Worked) (n : ℕ) → All (λ w. Few w.model) ls → Few (get_or ls n no_line).model
+few-line : (ls : List Worked) (n : ℕ) → AllByRecursion (λ w. Few w.model) ls → Few (get_or ls n no_line).model
 few-line [] n F = omega arith
 few-line (l ∷ ls) zero F = F.0
 few-line (l ∷ ls) (suc n) F = few-line ls n F.1
 
-module _ (k : KindMeaning) (m : MethodMeaning) (g : Ground) (lines : All (λ w. Few w.model) g.lines) where
+module _ (k : KindMeaning) (m : MethodMeaning) (g : Ground) (lines : AllByRecursion (λ w. Few w.model) g.lines) where
   run_modest : (n : ℕ) (s : Stack) (x : Token) {t : Stack} → Modest n s → admitted k.scale (length g.box) (length g.lines) x ≡ Ok tt → run_token k m g s x ≡ Ok t → Modest (suc n) t
   run_modest n s (Constant c) S a q = push_modest m n s _ true S (constant-few k (hull k.scale c)) q
   run_modest n s (Variable v) S a q = push_modest m n s _ true S (variable-few v _) q
@@ -94,7 +94,7 @@ items-few text (suc n) i = cond_both (ltb i (length text)) (followed i (token_at
     (λ _. followed-few n i (token_at text i) (λ next. items_from text n next) (λ j. items-few text n j)) (λ _. omega arith)
 
 -- few terms, and so many pairs at the most
-pub work-few : (k : KindMeaning) (m : MethodMeaning) (g : Ground) (text : List ℕ) {w : Worked} → All (λ l. Few l.model) g.lines → work k m g text ≡ Ok w →
+pub work-few : (k : KindMeaning) (m : MethodMeaning) (g : Ground) (text : List ℕ) {w : Worked} → AllByRecursion (λ l. Few l.model) g.lines → work k m g text ≡ Ok w →
     Few w.model × (w.pairs ≤ length text * 11200)
 unfolding work
 work-few k m g text {w} F q =
@@ -103,7 +103,7 @@ work-few k m g text {w} F q =
     let h = S.pairs in
     go s s.operands S.few c (omega (arith, items-few text (length text) 0))
   where
-    go : (s : Stack) (Ms : List Model) → All Few Ms → concluded (length text) s Ms ≡ Ok w → s.pairs ≤ length text * 11200 → Few w.model × (w.pairs ≤ length text * 11200)
+    go : (s : Stack) (Ms : List Model) → AllByRecursion Few Ms → concluded (length text) s Ms ≡ Ok w → s.pairs ≤ length text * 11200 → Few w.model × (w.pairs ≤ length text * 11200)
     go s [] f c h = absurd (not_refused c)
     go s (M ∷ []) f c h = let is = same-value c in (subst (λ (z : Worked). Few z.model) is f.0, subst (λ (z : Worked). z.pairs ≤ length text * 11200) is h)
     go s (M ∷ (N ∷ Ms)) f c h = absurd (not_refused c)

@@ -1,7 +1,7 @@
 -- A whole text that was written is read back, token by token: what is read so far stands before the rest.
 -- Assumes nothing.
 use Rattle.std.proofs.Common.{◌≡◌, ℕ, ◌+◌, ◌<◌, List, [], ◌∷◌, ◌++◌, length, get_or, take, Ok, sym, refl, ap, ◌∙◌, ap₂, arith, length-append}
-use Rattle.std.specs.List.{AllByRecursion as All}
+use Rattle.std.specs.List.{AllByRecursion}
 use Rattle.std.proofs.lemmas.List.{append_assoc, flat_map_more, take_more}
 use Rattle.formula.specs.declared.token.Token.{Token}
 use Rattle.formula.specs.declared.token.Token.TheVariants.{Constant, Variable, Line, Power, Add, Subtract, Multiply}
@@ -21,7 +21,7 @@ some_bytes Subtract = omega arith
 some_bytes Multiply = omega arith
 
 -- what is left of the text gives the tokens that are left
-rest : (before : List ℕ) (ts : List Token) → All Held ts → items_at (before ++ written_all ts) (length before) ≡ laid (length before) ts
+rest : (before : List ℕ) (ts : List Token) → AllByRecursion Held ts → items_at (before ++ written_all ts) (length before) ≡ laid (length before) ts
 rest before [] h = items_end (before ++ []) (length (before ++ [])) (length before) (omega (arith, length-append before []))
 rest before (x ∷ ts) h =
     let more = written_all ts in

@@ -1,6 +1,6 @@
 -- In the whole kind the work of a text keeps points: a stack that ends clean was clean at every token, so no pair was cut. Assumes nothing.
 use Rattle.std.proofs.Common.{◌≡◌, ℕ, Bool, true, ltb, List, [], ◌∷◌, ◌++◌, length, get_or, is_some, Ok, Result, ap, ◌∙◌, subst}
-use Rattle.std.specs.List.{AllByRecursion as All}
+use Rattle.std.specs.List.{AllByRecursion}
 use Rattle.std.proofs.lemmas.Bool.{and_parts}
 use Rattle.interval.specs.declared.reason.Reason.{Reason}
 use Rattle.interval.specs.declared.variable.Variable.{Variable as Var}
@@ -28,13 +28,13 @@ use Rattle.formula.proofs.TermCounts.{tested-same}
 use Rattle.formula.proofs.SoundWork.{constant-admitted}
 
 -- ---- one outcome more on a stack that is clean in the end
-put_pointed : (s : Stack) (rest : List Model) (r : Result Worked Reason) {u : Stack} → ((w : Worked) → r ≡ Ok w → w.clean ≡ true → Pointed w.model) → All Pointed rest →
-    put s rest r ≡ Ok u → u.clean ≡ true → All Pointed u.operands
+put_pointed : (s : Stack) (rest : List Model) (r : Result Worked Reason) {u : Stack} → ((w : Worked) → r ≡ Ok w → w.clean ≡ true → Pointed w.model) → AllByRecursion Pointed rest →
+    put s rest r ≡ Ok u → u.clean ≡ true → AllByRecursion Pointed u.operands
 put_pointed s rest r {u} f P q c =
     let (w, e, q1) = and_then_ok r _ q in
     let is = same-value q1 in
     let (a, b) = and_parts s.clean w.clean (ap (λ (z : Stack). z.clean) is ∙ c) in
-    subst (λ (z : Stack). All Pointed z.operands) is (f w e b, P)
+    subst (λ (z : Stack). AllByRecursion Pointed z.operands) is (f w e b, P)
 
 -- it was clean before
 put-clean : (s : Stack) (rest : List Model) (r : Result Worked Reason) {u : Stack} → put s rest r ≡ Ok u → u.clean ≡ true → s.clean ≡ true
@@ -47,12 +47,12 @@ pairless_pointed m M b w P q c =
     subst (λ (z : Worked). Pointed z.model) is (subst Pointed (tested-same m M e) (P (ap (λ (z : Worked). z.clean) is ∙ c)))
 
 unary_pointed : (s : Stack) (Ms : List Model) (f : Model → Result Worked Reason) {u : Stack} → ((M : Model) (w : Worked) → Pointed M → f M ≡ Ok w → w.clean ≡ true → Pointed w.model) →
-    All Pointed Ms → unary s Ms f ≡ Ok u → u.clean ≡ true → All Pointed u.operands
+    AllByRecursion Pointed Ms → unary s Ms f ≡ Ok u → u.clean ≡ true → AllByRecursion Pointed u.operands
 unary_pointed s [] f g P q c = absurd (not_refused q)
 unary_pointed s (M ∷ Ms) f g P q c = put_pointed s Ms (f M) (λ w e b. g M w P.0 e b) P.1 q c
 
 binary_pointed : (s : Stack) (Ms : List Model) (f : Model → Model → Result Worked Reason) {u : Stack} →
-    ((M N : Model) (w : Worked) → Pointed M → Pointed N → f M N ≡ Ok w → w.clean ≡ true → Pointed w.model) → All Pointed Ms → binary s Ms f ≡ Ok u → u.clean ≡ true → All Pointed u.operands
+    ((M N : Model) (w : Worked) → Pointed M → Pointed N → f M N ≡ Ok w → w.clean ≡ true → Pointed w.model) → AllByRecursion Pointed Ms → binary s Ms f ≡ Ok u → u.clean ≡ true → AllByRecursion Pointed u.operands
 binary_pointed s [] f g P q c = absurd (not_refused q)
 binary_pointed s (N ∷ []) f g P q c = absurd (not_refused q)
 binary_pointed s (N ∷ (M ∷ Ms)) f g P q c = put_pointed s Ms (f M N) (λ w e b. g M N w P.1.0 P.0 e b) P.1.1 q c
@@ -66,7 +66,7 @@ binary-clean s [] f q c = absurd (not_refused q)
 binary-clean s (N ∷ []) f q c = absurd (not_refused q)
 binary-clean s (N ∷ (M ∷ Ms)) f q c = put-clean s Ms (f M N) q c
 
-all_parts : {A : Type 0} (P : A → Type 0) (xs ys : List A) → All P (xs ++ ys) → All P xs × All P ys
+all_parts : {A : Type 0} (P : A → Type 0) (xs ys : List A) → AllByRecursion P (xs ++ ys) → AllByRecursion P xs × AllByRecursion P ys
 all_parts P [] ys h = (tt, h)
 all_parts P (x ∷ xs) ys h = let (a, b) = all_parts P xs ys h.1 in ((h.0, a), b)
 
@@ -85,11 +85,11 @@ module _ (k : KindMeaning) (m : MethodMeaning) (K : Whole k) (order : ℕ) (box 
   token-clean s Multiply q c = binary-clean s s.operands _ q c
 
   -- a new operand
-  push_pointed : (s : Stack) (M : Model) (b : Bool) {u : Stack} → (b ≡ true → Pointed M) → All Pointed s.operands → push m s M b ≡ Ok u → u.clean ≡ true → All Pointed u.operands
+  push_pointed : (s : Stack) (M : Model) (b : Bool) {u : Stack} → (b ≡ true → Pointed M) → AllByRecursion Pointed s.operands → push m s M b ≡ Ok u → u.clean ≡ true → AllByRecursion Pointed u.operands
   push_pointed s M b f P q c = put_pointed s s.operands (pairless m M b) (λ w e d. pairless_pointed m M b w f e d) P (require_ok (ltb (length s.operands) 8) _ _ q).1 c
 
-  token_pointed : (s : Stack) (t : Token) {u : Stack} → WholeToken t → All WholeToken (named made t) → All Pointed s.operands →
-      admitted k.scale (length box) (length lines) t ≡ Ok tt → run_token k m here s t ≡ Ok u → u.clean ≡ true → All Pointed u.operands
+  token_pointed : (s : Stack) (t : Token) {u : Stack} → WholeToken t → AllByRecursion WholeToken (named made t) → AllByRecursion Pointed s.operands →
+      admitted k.scale (length box) (length lines) t ≡ Ok tt → run_token k m here s t ≡ Ok u → u.clean ≡ true → AllByRecursion Pointed u.operands
   token_pointed s (Constant x) (z, e) h P a q c =
       let (f, g) = constant-admitted k.scale x (require_ok (is_some (hulled k.scale x)) _ _ a).0 in
       push_pointed s (constant k (hull k.scale x)) true (λ _. (whole-exact k m order K).constants x z e (fits-sized (hull_ordered k.scale x) g)) P q c
@@ -111,19 +111,19 @@ module _ (k : KindMeaning) (m : MethodMeaning) (K : Whole k) (order : ℕ) (box 
       let (_, a, e2) = and_then_ok (admitted k.scale (length box) (length lines) t) (λ _. run_token k m here s t) e1 in
       token-clean s t e2 (items-clean v is r c)
 
-  items_pointed : (s : Stack) (is : List Item) {u : Stack} → All WholeToken (all_named made (read_tokens is)) → All Pointed s.operands → run_items k m here s is ≡ Ok u → u.clean ≡ true →
-      All Pointed u.operands
+  items_pointed : (s : Stack) (is : List Item) {u : Stack} → AllByRecursion WholeToken (all_named made (read_tokens is)) → AllByRecursion Pointed s.operands → run_items k m here s is ≡ Ok u → u.clean ≡ true →
+      AllByRecursion Pointed u.operands
   unfolding run_items
-  items_pointed s [] h P q c = subst (λ (z : Stack). All Pointed z.operands) (same-value q) P
+  items_pointed s [] h P q c = subst (λ (z : Stack). AllByRecursion Pointed z.operands) (same-value q) P
   items_pointed s (i ∷ is) h P q c =
       let (v, e, r) = and_then_ok (at_place i.place (run_item k m here s i)) (λ v. run_items k m here v is) q in
       let (t, p, e1) = and_then_ok i.token _ (at_place_ok i.place (run_item k m here s i) e) in
       let (_, a, e2) = and_then_ok (admitted k.scale (length box) (length lines) t) (λ _. run_token k m here s t) e1 in
-      let parts : All WholeToken (t ∷ (named made t ++ all_named made (read_tokens is))) = subst (λ x. All WholeToken (all_named made (added x (read_tokens is)))) p h in
+      let parts : AllByRecursion WholeToken (t ∷ (named made t ++ all_named made (read_tokens is))) = subst (λ x. AllByRecursion WholeToken (all_named made (added x (read_tokens is)))) p h in
       let (n, rest) = all_parts WholeToken (named made t) (all_named made (read_tokens is)) parts.1 in
       items_pointed v is rest (token_pointed s t parts.0 n P a e2 (items-clean v is r c)) r c
 
-  concluded_pointed : (n : ℕ) (s : Stack) (Ms : List Model) (w : Worked) → (s.clean ≡ true → All Pointed Ms) → concluded n s Ms ≡ Ok w → w.clean ≡ true → Pointed w.model
+  concluded_pointed : (n : ℕ) (s : Stack) (Ms : List Model) (w : Worked) → (s.clean ≡ true → AllByRecursion Pointed Ms) → concluded n s Ms ≡ Ok w → w.clean ≡ true → Pointed w.model
   concluded_pointed n s [] w P q c = absurd (not_refused q)
   concluded_pointed n s (M ∷ []) w P q c = let is = same-value q in subst (λ (z : Worked). Pointed z.model) is (P (ap (λ (z : Worked). z.clean) is ∙ c)).0
   concluded_pointed n s (M ∷ (N ∷ Ms)) w P q c = absurd (not_refused q)

@@ -1,7 +1,7 @@
 -- One formula over a box of given ends: what it is worked to, and what its model tells. Assumes nothing.
 use Rattle.std.specs.Prelude.{◌≡◌, ℕ, Bool, true, List, [], length, pos, Some, Ok, Option, Result}
 use Rattle.std.specs.Option.{option_map}
-use Rattle.std.specs.List.{AllByRecursion as All}
+use Rattle.std.specs.List.{AllByRecursion}
 use Rattle.rational.specs.Fraction.{Fraction, whole, ◌*ᶠ◌}
 use Rattle.interval.specs.declared.reason.Reason.TheVariants.{OrderOutOfRange, VariablesOutOfRange, TextOutOfRange}
 use Rattle.interval.specs.declared.refusal.Refusal.{Refusal}
@@ -44,14 +44,14 @@ formula_marks S point text = option_map (λ x. x *ᶠ whole (pos S)) (exact_toke
 -- the model M, with its clean mark, encloses the formula
 pub record Enclosed (k : KindMeaning) (m : MethodMeaning) (ends : List Ends) (text : List ℕ) (M : Model) (clean : Bool) : Type 0 where
   -- each variable's span holds the ends that were given for it
-  pub spans : All (Sound k.scale) (box_of k ends)
+  pub spans : AllByRecursion (Sound k.scale) (box_of k ends)
   -- at every point of the box the formula has an exact value; in marks it lies between the two ends of the polynomial's value, each plus that
   -- end of the remainder, and in the method's range plus the remainder
   pub bounds : (point : List Fraction) → InBox (box_of k ends) point →
       (v : Fraction) × (formula_marks k.scale point text ≡ Some v) × InBounds m (units (box_of k ends) point) M v
   -- where a mark is a unit and every interval that fits is split at its lower end: if no pair was cut and every constant is whole, the remainder
   -- is [0, 0], and both ends of the polynomial's value are the exact value
-  pub exact : Whole k → clean ≡ true → All WholeToken (tokens text) → (point : List Fraction) → InBox (box_of k ends) point →
+  pub exact : Whole k → clean ≡ true → AllByRecursion WholeToken (tokens text) → (point : List Fraction) → InBox (box_of k ends) point →
       (v : Fraction) × (formula_marks k.scale point text ≡ Some v) × ExactModel (units (box_of k ends) point) M v
 
 -- whatever is answered is enclosed

@@ -1,7 +1,7 @@
 -- What a model tells of a formula's value, and the two laws of the work of a text: they carry this from the lines below to the next
 -- line. Assumes nothing.
 use Rattle.std.specs.Prelude.{◌≡◌, ℕ, ◌<◌, ◌≤◌, true, List, [], length, ℤ, Some, None, Ok, Option, slice_index_or}
-use Rattle.std.specs.List.{AllByRecursion as All}
+use Rattle.std.specs.List.{AllByRecursion}
 use Rattle.rational.specs.Fraction.{Fraction, whole, ◌=ᶠ◌}
 use Rattle.interval.specs.declared.variable.Variable.{Variable as Var}
 use Rattle.interval.specs.Interval.{zero_interval, ◌within◌}
@@ -67,7 +67,7 @@ WholeToken Multiply = Unit {0}
 
 -- a clean line that is built from whole constants has points for coefficients, and nothing is left over
 abbrev pub WholeLine : Worked → List Token → Type 0
-WholeLine w made = w.clean ≡ true → All WholeToken made → Pointed w.model
+WholeLine w made = w.clean ≡ true → AllByRecursion WholeToken made → Pointed w.model
 
 -- over such lines, a text that is worked gives such a line; `made` has the tokens that each line below is built from
 abbrev pub WorkWhole : Type 0

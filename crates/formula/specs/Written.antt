@@ -2,7 +2,7 @@
 use Rattle.std.specs.Prelude.{◌≡◌, ℕ, ◌+◌, ◌/◌, ◌%◌, T, List, [], ◌∷◌, length, Ok, to_bits}
 use Rattle.std.specs.Float.{binary64}
 use Rattle.std.specs.Float.Ieee.{fits}
-use Rattle.std.specs.List.{flat_map, AllByRecursion as All}
+use Rattle.std.specs.List.{flat_map, AllByRecursion}
 use Rattle.formula.specs.declared.token.Token.{Token}
 use Rattle.formula.specs.declared.token.Token.TheVariants.{Constant, Variable, Line, Power, Add, Subtract, Multiply}
 use Rattle.formula.specs.Token.{Item, item, items, tokens}
@@ -45,4 +45,4 @@ laid i (t ∷ ts) = item i (Ok t) ∷ laid (i + length (written t)) ts
 -- reading the bytes of tokens gives these tokens, each at its place, and no refusal; every NaN is the one `nan` here,
 -- so of a NaN's sign and payload this says nothing
 abbrev pub ReadsBack : Type 0
-ReadsBack = (ts : List Token) → All Held ts → (items (written_all ts) ≡ laid 0 ts) × (tokens (written_all ts) ≡ ts)
+ReadsBack = (ts : List Token) → AllByRecursion Held ts → (items (written_all ts) ≡ laid 0 ts) × (tokens (written_all ts) ≡ ts)

@@ -1,7 +1,7 @@
 -- The pairs of a linear and a square term of one variable: n is linear with the square m exactly if m is a square with the root n.
 -- Assumes nothing.
 use Rattle.std.proofs.Common.{◌≡◌, Bool, true, false, ◌&&◌, eqb, List, sym, refl, ap, ◌∙◌, arith}
-use Rattle.std.specs.List.{AllByRecursion as All}
+use Rattle.std.specs.List.{AllByRecursion}
 use Rattle.std.specs.Ordering.{is_eq}
 use Rattle.std.proofs.ByRecursion.{All-weaker}
 use Rattle.std.proofs.lemmas.Bool.{eqb-true, eq-eqb, and_parts, and_from}
@@ -26,7 +26,7 @@ term-at ts m = entry by_degree monomial_of (term m zero_interval) ts m
 abbrev pub Own : List Term → Term → Type 0
 Own ts t = coefficient_at ts t.monomial ≡ t.coefficient
 
-pub all_own : (ts : List Term) → Ascending by_degree monomial_of ts → All (Own ts) ts
+pub all_own : (ts : List Term) → Ascending by_degree monomial_of ts → AllByRecursion (Own ts) ts
 all_own ts a = All-weaker _ (Own ts) (λ t e. ap (λ u. u.coefficient) e) ts (entry_own by_degree monomial_of (λ t. term t.monomial zero_interval) ts a)
 
 -- a·u² and b·u

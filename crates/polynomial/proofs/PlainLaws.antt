@@ -2,7 +2,7 @@
 -- Assumes nothing.
 use Rattle.std.proofs.Common.{List, [], ◌∷◌, ℤ, pos, arith}
 use borrow.Author.Differences.{ints}
-use Rattle.std.specs.List.{AllByRecursion as All}
+use Rattle.std.specs.List.{AllByRecursion}
 use Rattle.rational.specs.Fraction.{Fraction}
 use Rattle.rational.proofs.Rational.{of, ℚ_ring}
 use Rattle.rational.proofs.Order.{≤ℚ_refl, of_mono}
@@ -20,7 +20,7 @@ module _ (us : List Fraction) (U : Units us) (choose : Term → ℤ) (choice : C
   pub reach-chosen : (t : Term) → FitTerm t → chosen us choose t inside reach t.monomial t.coefficient
   reach-chosen t f = let h = choice t f.fit.order in reach-holds us U t.monomial (record { low = of_mono h.0; high = of_mono h.1 })
 
-  plain-inside : (ts : List Term) → All FitTerm ts → total ℚ_ring (chosen us choose) ts inside plain ts
+  plain-inside : (ts : List Term) → AllByRecursion FitTerm ts → total ℚ_ring (chosen us choose) ts inside plain ts
   unfolding plain
   plain-inside [] f = record { low = ≤ℚ_refl (of (pos 0)); high = ≤ℚ_refl (of (pos 0)) }
   plain-inside (t ∷ ts) f = inside-sum (reach-chosen t f.0) (plain-inside ts f.1)

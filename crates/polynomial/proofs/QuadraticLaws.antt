@@ -4,7 +4,7 @@
 use Rattle.std.proofs.Common.{◌≡◌, Bool, true, false, not, ◌&&◌, eqb, List, [], ◌∷◌, ℤ, pos, ◌+ℤ◌, ◌≤ℤ◌, sym, refl, ap, ◌∙◌, subst, ap₂, arith}
 use lib.Signed.{le_z}
 use Rattle.std.proofs.lemmas.Int.{ints}
-use Rattle.std.specs.List.{AllByRecursion as All}
+use Rattle.std.specs.List.{AllByRecursion}
 use Rattle.std.proofs.lemmas.Bool.{and_parts, ne_eqb, cond-true, cond-false}
 use Rattle.rational.specs.Fraction.{Fraction}
 use Rattle.rational.proofs.Whole.{ℤ_ring}
@@ -78,7 +78,7 @@ module _ (ts : List Term) (p : Polynomial ts) where
   high_le : (t : Term) → Own ts t → (part ts t).upper ≤ℤ moved ℤ_ring high ts t
   high_le t own = by_part ℤ_ring high ts (λ i x. i.upper ≤ℤ x) t own (omega (arith, ints)) (λ q. (pair_narrows q).high) (omega (arith, ints))
 
-  parts_within : (us : List Term) → All (Own ts) us → Within (parts ts us) (interval (total ℤ_ring (moved ℤ_ring low ts) us) (total ℤ_ring (moved ℤ_ring high ts) us))
+  parts_within : (us : List Term) → AllByRecursion (Own ts) us → Within (parts ts us) (interval (total ℤ_ring (moved ℤ_ring low ts) us) (total ℤ_ring (moved ℤ_ring high ts) us))
   parts_within [] own = record { low = omega (arith, ints); high = omega (arith, ints) }
   parts_within (t ∷ us) own =
       let r = parts_within us own.1 in
@@ -115,7 +115,7 @@ module _ (ts : List Term) (p : Polynomial ts) where
         (λ q. rw (pair-value q) (inside-joint t.coefficient.lower (term-at ts (root t.monomial)).coefficient.lower (value_unital us U (term-at ts (root t.monomial)).monomial)))
         (reach-chosen us U choose choice t f)
 
-    parts_hold : (vs : List Term) → All (Own ts) vs → All FitTerm vs → total ℚ_ring (moved ℚ_ring (chosen us choose) ts) vs inside parts ts vs
+    parts_hold : (vs : List Term) → AllByRecursion (Own ts) vs → AllByRecursion FitTerm vs → total ℚ_ring (moved ℚ_ring (chosen us choose) ts) vs inside parts ts vs
     parts_hold [] own f = record { low = ≤ℚ_refl (of (pos 0)); high = ≤ℚ_refl (of (pos 0)) }
     parts_hold (t ∷ vs) own f = inside-sum (part-holds t own.0 f.0) (parts_hold vs own.1 f.1)
 

@@ -2,7 +2,7 @@
 -- Assumes nothing.
 use Rattle.std.proofs.Common.{◌≡◌, ◌+◌, true, cond, List, [], ◌∷◌, get_or, drop, pos, Ordering, Less, Equal, Greater, sym, refl, ap, ◌∙◌, subst, true≢false, one-add}
 use Rattle.std.specs.Ordering.{is_lt, is_eq, is_gt, ordering_reverse}
-use Rattle.std.specs.List.{AllByRecursion as All}
+use Rattle.std.specs.List.{AllByRecursion}
 use Rattle.table.specs.Order.{Order}
 use Rattle.table.specs.Table.{by_rank, place, first_is, has_key, entry, Next, Ascending}
 use Rattle.rational.proofs.Solver.{Ring, lit, ◌⊕◌, ◌≈◌, ring1}
@@ -10,7 +10,7 @@ use Rattle.polynomial.proofs.Totals.{total}
 
 module _ {E K : Type 0} (o : Order K) (key : E → K) where
   -- what comes before the first comes before all
-  pub before_all : (k : K) (es : List E) → Next o key k es → Ascending o key es → All (λ e. o.rank k (key e) ≡ Less) es
+  pub before_all : (k : K) (es : List E) → Next o key k es → Ascending o key es → AllByRecursion (λ e. o.rank k (key e) ≡ Less) es
   before_all k [] n a = tt
   before_all k (x ∷ xs) n a = (n, before_all k xs (next xs a.0) a.1)
     where
@@ -57,7 +57,7 @@ module _ {E K : Type 0} (o : Order K) (key : E → K) where
       go Greater e rest = rw e refl
 
   -- what holds of all entries, and of d, holds of it
-  pub entry_all : (P : E → Type 0) (d : E) (es : List E) (k : K) → P d → All P es → P (entry o key d es k)
+  pub entry_all : (P : E → Type 0) (d : E) (es : List E) (k : K) → P d → AllByRecursion P es → P (entry o key d es k)
   entry_all P d [] k p h = p
   entry_all P d (x ∷ xs) k p h = go (o.rank (key x) k) (entry_all P d xs k p h.1)
     where
@@ -67,11 +67,11 @@ module _ {E K : Type 0} (o : Order K) (key : E → K) where
       go Greater rest = p
 
   -- every entry is found under its key
-  pub entry_own : (d : E → E) (es : List E) → Ascending o key es → All (λ e. entry o key (d e) es (key e) ≡ e) es
+  pub entry_own : (d : E → E) (es : List E) → Ascending o key es → AllByRecursion (λ e. entry o key (d e) es (key e) ≡ e) es
   entry_own d [] a = tt
   entry_own d (x ∷ xs) a = (rw (same_rank (key x)) refl, go xs (before_all (key x) xs a.0 a.1) (entry_own d xs a.1))
     where
-      go : (ys : List E) → All (λ e. o.rank (key x) (key e) ≡ Less) ys → All (λ e. entry o key (d e) xs (key e) ≡ e) ys → All (λ e. entry o key (d e) (x ∷ xs) (key e) ≡ e) ys
+      go : (ys : List E) → AllByRecursion (λ e. o.rank (key x) (key e) ≡ Less) ys → AllByRecursion (λ e. entry o key (d e) xs (key e) ≡ e) ys → AllByRecursion (λ e. entry o key (d e) (x ∷ xs) (key e) ≡ e) ys
       go [] l h = tt
       go (y ∷ ys) l h = (rw l.0 h.0, go ys l.1 h.1)
 
@@ -82,7 +82,7 @@ module _ {E K : Type 0} (o : Order K) (key : E → K) where
     abbrev pub under : K → E → carrier
     under k e = cond (is_eq (o.rank (key e) k)) (f e) (of (pos 0))
 
-    none_under : (k : K) (es : List E) → All (λ e. o.rank k (key e) ≡ Less) es → total R (under k) es ≡ of (pos 0)
+    none_under : (k : K) (es : List E) → AllByRecursion (λ e. o.rank k (key e) ≡ Less) es → total R (under k) es ≡ of (pos 0)
     none_under k [] h = refl
     none_under k (x ∷ xs) h =
         let g : o.rank (key x) k ≡ Greater = o.flip (key x) k ∙ ap ordering_reverse h.0 in
@@ -96,7 +96,7 @@ module _ {E K : Type 0} (o : Order K) (key : E → K) where
             → add (cond (is_eq r) (f x) (of (pos 0))) (total R (under k) xs) ≡ f (by_rank r (entry o key d xs k) x d)
         go Less e rest = zero_add (total R (under k) xs) ∙ rest
         go Equal e rest =
-            let n = none_under k xs (subst (λ j. All (λ y. o.rank j (key y) ≡ Less) xs) (o.exact (key x) k e) (before_all (key x) xs a.0 a.1)) in
+            let n = none_under k xs (subst (λ j. AllByRecursion (λ y. o.rank j (key y) ≡ Less) xs) (o.exact (key x) k e) (before_all (key x) xs a.0 a.1)) in
             ap (add (f x)) n ∙ ring1 R (λ v. v ⊕ lit (pos 0) ≈ v) tt (f x)
         go Greater e rest =
             let n = none_under k xs (before_all k (x ∷ xs) (o.flip k (key x) ∙ ap ordering_reverse e) a).1 in

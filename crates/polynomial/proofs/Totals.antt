@@ -1,7 +1,7 @@
 -- Sums over a list in any commutative ring: what passes from one element to another leaves the sum as it was.
 -- Assumes nothing.
 use Rattle.std.proofs.Common.{◌≡◌, List, [], ◌∷◌, pos, sym, refl, ap, ◌∙◌, ap₂}
-use Rattle.std.specs.List.{AllByRecursion as All}
+use Rattle.std.specs.List.{AllByRecursion}
 use Rattle.rational.proofs.Solver.{Ring, lit, ◌⊕◌, ◌⊗◌, ◌⊝◌, ◌≈◌, ring3, ring4, combine}
 
 module _ (R : Ring) where
@@ -11,7 +11,7 @@ module _ (R : Ring) where
   total f [] = of (pos 0)
   total f (x ∷ xs) = add (f x) (total f xs)
 
-  pub total-same : {A : Type 0} (f g : A → carrier) (xs : List A) → All (λ x. f x ≡ g x) xs → total f xs ≡ total g xs
+  pub total-same : {A : Type 0} (f g : A → carrier) (xs : List A) → AllByRecursion (λ x. f x ≡ g x) xs → total f xs ≡ total g xs
   total-same f g [] h = refl
   total-same f g (x ∷ xs) h = ap₂ add h.0 (total-same f g xs h.1)
 
@@ -32,7 +32,7 @@ module _ (R : Ring) where
 
   -- f x y passes from x to y, and turns the value old into the value new
   pub regrouped : {A : Type 0} (old new : A → carrier) (f : A → A → carrier) (xs : List A)
-      → All (λ x. add (new x) (total (f x) xs) ≡ add (old x) (total (λ y. f y x) xs)) xs → total new xs ≡ total old xs
+      → AllByRecursion (λ x. add (new x) (total (f x) xs) ≡ add (old x) (total (λ y. f y x) xs)) xs → total new xs ≡ total old xs
   regrouped old new f xs h =
       combine R (of (pos 1)) sums
       (ring3 R (λ n o p. n ⊝ o ≈ lit (pos 1) ⊗ ((n ⊕ p) ⊝ (o ⊕ p))) tt (total new xs) (total old xs) (total (λ x. total (f x) xs) xs))

@@ -1,6 +1,6 @@
 -- What a ranging method means, and the plain range. Assumes nothing.
 use Rattle.std.specs.Prelude.{◌≡◌, ◌≤◌, false, List, [], ◌∷◌, length, ◌≤ℤ◌}
-use Rattle.std.specs.List.{AllByRecursion as All}
+use Rattle.std.specs.List.{AllByRecursion}
 use Rattle.rational.specs.Fraction.{Fraction, whole, ◌≤ᶠ◌}
 use Rattle.interval.specs.declared.marks.Interval.{Interval}
 use Rattle.interval.specs.Interval.{Fits, zero_interval, is_zero, plus}
@@ -20,7 +20,7 @@ pub record FitTerm (t : Term) : Type 0 where
 pub record Polynomial (ts : List Term) : Type 0 where
   pub few : length ts ≤ 40
   pub ascends : Ascending by_degree (λ t. t.monomial) ts
-  pub fit : All FitTerm ts
+  pub fit : AllByRecursion FitTerm ts
 
 -- the reach of each coefficient under its monomial, added up
 unfoldable pub plain : List Term → Interval

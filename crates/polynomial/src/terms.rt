@@ -1,6 +1,6 @@
 // Terms in a lent slice whose first `count` places are in use.
 ghost use Rattle.std.specs.Prelude.{◌≡◌, ◌≤◌, length, take, is_some, if◌then◌else◌};
-ghost use Rattle.std.specs.List.{AllByRecursion as All};
+ghost use Rattle.std.specs.List.{AllByRecursion};
 ghost use Rattle.interval.specs.Interval.{Summable};
 ghost use Rattle.table.specs.Slice.{over, packed};
 ghost use Rattle.polynomial.specs.Reach.{zero_term, with_term, dropped};
@@ -23,7 +23,7 @@ pub fn all_fit(terms: &[Term]) -> bool
 // A term joins the one of its monomial, or takes its place. Answers how many are in use then, or None where no place is left.
 pub fn enter(terms: &mut [Term], count: usize, term: Term) -> Option<usize>
     requires room { count ≤ length terms.old }
-    requires joins { All (λ u. Summable u.coefficient × Summable term.coefficient) (take count terms.old) }
+    requires joins { AllByRecursion (λ u. Summable u.coefficient × Summable term.coefficient) (take count terms.old) }
     ensures value { result ≡ new_count (length terms.old) (with_term (take count terms.old) term) }
     ensures after { terms.new ≡ (if is_some result then over (with_term (take count terms.old) term) terms.old else terms.old) }
 {

@@ -1,7 +1,7 @@
 -- The variables of a record, made one after the other. Assumes nothing.
 use Rattle.std.proofs.Common.{◌≡◌, ℕ, ◌+◌, ◌<◌, ◌≤◌, List, [], ◌∷◌, ◌++◌, length, get_or, take, drop, set, Ok, Err, Result, sym, refl, ap, ◌∙◌, subst, arith}
 use lib.Ieee.{Float}
-use Rattle.std.specs.List.{AllByRecursion as All}
+use Rattle.std.specs.List.{AllByRecursion}
 use Rattle.std.proofs.ByRecursion.{All-push}
 use Rattle.std.proofs.lemmas.List.{at_drop_more, at_drop_all, map_more, take_all}
 use Rattle.interval.specs.declared.reason.Reason.{Reason}
@@ -32,7 +32,7 @@ module _ (S : ℕ) (ends : List (Float × Float)) where
   pub record Boxing (i : ℕ) (made : List Variable) : Type 0 where
     pub tested : ends_tested S i (drop i ends) ≡ ends_tested S 0 ends
     pub packs : Packs 6 no_variable made i (boxed S (take i ends))
-    pub fit : All FitVariable (boxed S (take i ends))
+    pub fit : AllByRecursion FitVariable (boxed S (take i ends))
 
   pub boxing_none : Boxing 0 (packed 6 no_variable [])
   boxing_none = record { tested = refl; packs = record { whole = refl; size = refl; fits = omega arith }; fit = tt }
@@ -52,7 +52,7 @@ module _ (S : ℕ) (ends : List (Float × Float)) where
         record {
           tested = sym (next (Ok v) is);
           packs = subst (Packs 6 no_variable (set made i v) (i + 1)) more (packs-push 6 no_variable made i (boxed S (take i ends)) v b.packs (omega arith));
-          fit = subst (All FitVariable) more (All-push FitVariable (boxed S (take i ends)) v b.fit (record { centre = sound.centre; half = sound.half }));
+          fit = subst (AllByRecursion FitVariable) more (All-push FitVariable (boxed S (take i ends)) v b.fit (record { centre = sound.centre; half = sound.half }));
         }
 
     pub boxing_stops : (e : Reason) → Err e ≡ variable_of S (get_or ends i d).0 (get_or ends i d).1 → Err (refusal e 0 i) ≡ made_box S ends
@@ -67,5 +67,5 @@ module _ (S : ℕ) (ends : List (Float × Float)) where
         ap Ok (b.packs.whole ∙ ap (λ es. packed 6 no_variable (boxed S es)) all_taken)
         ∙ sym (ap (λ r. and_then r (λ _. Ok (packed 6 no_variable (boxed S ends)))) (sym b.tested ∙ at_drop_all (ends_tested S i) ends i h))
 
-    pub boxing_fit : All FitVariable (boxed S ends)
-    boxing_fit = subst (λ es. All FitVariable (boxed S es)) all_taken b.fit
+    pub boxing_fit : AllByRecursion FitVariable (boxed S ends)
+    boxing_fit = subst (λ es. AllByRecursion FitVariable (boxed S es)) all_taken b.fit

@@ -1,6 +1,6 @@
 -- Charging an office: its account grows or is opened, and the accounts keep their shape. Assumes nothing.
 use Rattle.std.proofs.Common.{◌≡◌, ℕ, ◌+◌, ◌^◌, ◌<◌, ◌≤◌, Bool, true, cond, ◌||◌, ltb, leb, List, [], ◌∷◌, length, sum_by, Ordering, Less, Equal, Greater, refl, ◌∙◌, ⊎_elim, arith}
-use Rattle.std.specs.List.{AllByRecursion as All}
+use Rattle.std.specs.List.{AllByRecursion}
 use Rattle.std.proofs.ByRecursion.{All-from_get_or}
 use Rattle.std.proofs.lemmas.List.{take_at}
 use Rattle.std.proofs.lemmas.List.Sums.{sum_by-cons, get_or-le-sum_by}
@@ -55,7 +55,7 @@ module _ (s : SheetRecord) (shape : Shape s) (o n : ℕ) (room : can_charge (sta
   charge_room = let size = shape.accounts.packs.size in let long = packs_long 8 (account 0 0) s.accounts s.offices es shape.accounts.packs in let f = few in omega arith
 
   -- no sum leaves 64 bits
-  pub charge_joins : All (λ a. a.pairs + n < 2 ^ 64) es
+  pub charge_joins : AllByRecursion (λ a. a.pairs + n < 2 ^ 64) es
   charge_joins = All-from_get_or (λ a. a.pairs + n < 2 ^ 64) es (account 0 0) (λ i h.
       let w = within in
       let high = shape.allowance.high in

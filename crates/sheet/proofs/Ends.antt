@@ -2,7 +2,7 @@
 use Rattle.std.proofs.Common.{◌≡◌, ℕ, ◌+◌, true, not, ◌&&◌, [], ◌∷◌, Ok, refl, ap, ◌∙◌}
 use lib.Ieee.{Float, lt}
 use Rattle.std.specs.Float.{float_is_finite}
-use Rattle.std.specs.List.{AllByRecursion as All}
+use Rattle.std.specs.List.{AllByRecursion}
 use Rattle.std.proofs.lemmas.Bool.{not-true, and_parts}
 use Rattle.interval.specs.declared.reason.Reason.TheVariants.{EndNotFinite, EndsCrossed, EndDoesNotFit}
 use Rattle.interval.specs.Reason.{and_then}
@@ -25,7 +25,7 @@ pub record Good (S : ℕ) (e : Float × Float) : Type 0 where
   pub order : uncrossed e.0 e.1 ≡ true
   pub fit : fits (hull_ends S e.0 e.1) ≡ true
 
-pub tested_good : (S n : ℕ) (es : Ends) → ends_tested S n es ≡ Ok tt → All (Good S) es
+pub tested_good : (S n : ℕ) (es : Ends) → ends_tested S n es ≡ Ok tt → AllByRecursion (Good S) es
 tested_good S n [] q = tt
 tested_good S n (e ∷ es) q =
     let one = variable_of S e.0 e.1 in
@@ -42,7 +42,7 @@ good_variable S e G =
     ∙ require_yes (uncrossed e.0 e.1) EndsCrossed _ G.order
     ∙ require_yes (fits (hull_ends S e.0 e.1)) EndDoesNotFit _ G.fit
 
-pub good_tested : (S n : ℕ) (es : Ends) → All (Good S) es → ends_tested S n es ≡ Ok tt
+pub good_tested : (S n : ℕ) (es : Ends) → AllByRecursion (Good S) es → ends_tested S n es ≡ Ok tt
 good_tested S n [] G = refl
 good_tested S n (e ∷ es) G =
     ap (λ r. and_then (at_line 0 (at_place n r)) (λ _. ends_tested S (n + 1) es)) (good_variable S e G.0) ∙ good_tested S (n + 1) es G.1

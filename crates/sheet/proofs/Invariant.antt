@@ -1,6 +1,6 @@
 -- What every reached sheet keeps: it is what stands, its lines follow, and its ends still open a sheet. Assumes nothing.
 use Rattle.std.proofs.Common.{◌≡◌, ℕ, ◌-◌, ◌≤◌, true, List, [], ◌∷◌, ◌++◌, length, take, Ok, sym, refl, ap, ◌∙◌, subst, ap₂, arith}
-use Rattle.std.specs.List.{AllByRecursion as All}
+use Rattle.std.specs.List.{AllByRecursion}
 use Rattle.std.proofs.lemmas.List.{length_push, length-map, length-take, map_push, take-map}
 use Rattle.std.proofs.ByRecursion.{All-push, All-take}
 use Rattle.interval.specs.Kind.{KindMeaning}
@@ -24,10 +24,10 @@ pub record Invariant (k : KindMeaning) (m : MethodMeaning) (given : Opening) (wh
   pub same-texts : texts s.lines ≡ what.texts
   pub follow : Follow k m s.order s.box [] s.lines
   pub few : length s.lines ≤ 12
-  pub proper : All (λ t. text_fits t ≡ true) what.texts
+  pub proper : AllByRecursion (λ t. text_fits t ≡ true) what.texts
   pub orders : from_to 1 8 given.order ≡ true
   pub variables : from_to 1 6 (length what.ends) ≡ true
-  pub good : All (Good k.scale) what.ends
+  pub good : AllByRecursion (Good k.scale) what.ends
 
 module _ (k : KindMeaning) (m : MethodMeaning) (given : Opening) where
   pub opening_keeps : (s : State) → open_sheet k given ≡ Ok s → Invariant k m given (stand given.ends []) s

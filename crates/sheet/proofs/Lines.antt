@@ -1,7 +1,7 @@
 -- The lines of a record: how many stand, which they are, and what striking and adding leave. Assumes nothing.
 use Rattle.std.proofs.Common.{◌≡◌, ℕ, ◌+◌, ◌-◌, ◌<◌, ◌≤◌, List, [], ◌∷◌, ◌++◌, map, length, get_or, take, set, sym, refl, ap, ◌∙◌, subst, arith}
 use Rattle.std.proofs.lemmas.List.{length-map, take-set, take-take, take-map, take_at, take_more_set, map_push, get_or-map, get_or-take}
-use Rattle.std.specs.List.{AllByRecursion as All}
+use Rattle.std.specs.List.{AllByRecursion}
 use Rattle.std.proofs.ByRecursion.{All-get_or, All-take, All-push}
 use Rattle.table.proofs.Packing.{packs_long}
 use Rattle.interval.specs.Interval.{limit}
@@ -58,7 +58,7 @@ module _ (count : ℕ) (ls : List LineRecord) (shape : LinesShape count ls) wher
     pub struck_shape : LinesShape (count - 1) (set ls (count - 1) zero_line)
     struck_shape = record {
       packs = packs_own 12 zero_line (set ls (count - 1) zero_line) (count - 1) (take (count - 1) ls) (packs_pop 12 zero_line ls count shape.packs h);
-      each = rw take-set (subst (All LineShape) (take-take (count - 1) count ls (omega arith)) (All-take LineShape (count - 1) (take count ls) shape.each));
+      each = rw take-set (subst (AllByRecursion LineShape) (take-take (count - 1) count ls (omega arith)) (All-take LineShape (count - 1) (take count ls) shape.each));
     }
 
   -- one is added last
@@ -71,5 +71,5 @@ module _ (count : ℕ) (ls : List LineRecord) (shape : LinesShape count ls) wher
         let long = lines_long in
         record {
           packs = packs_own 12 zero_line (set ls count l) (count + 1) (take count ls ++ (l ∷ [])) (packs-push 12 zero_line ls count (take count ls) l shape.packs h);
-          each = subst (All LineShape) (sym (take_more_set ls count l (omega arith))) (All-push LineShape (take count ls) l shape.each formed);
+          each = subst (AllByRecursion LineShape) (sym (take_more_set ls count l (omega arith))) (All-push LineShape (take count ls) l shape.each formed);
         }

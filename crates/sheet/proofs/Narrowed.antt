@@ -2,7 +2,7 @@
 -- old ones. Assumes nothing.
 use Rattle.std.proofs.Common.{◌≡◌, ℕ, ◌<◌, true, [], length, get_or, set, Ok, sym, refl, ap, ◌∙◌, subst, arith}
 use lib.Ieee.{Float}
-use Rattle.std.specs.List.{AllByRecursion as All}
+use Rattle.std.specs.List.{AllByRecursion}
 use Rattle.std.proofs.lemmas.List.{length-map, length-set, map-set, get_or-map, get_or-set_other}
 use Rattle.std.proofs.ByRecursion.{All-set, All-get_or}
 use Rattle.std.proofs.lemmas.Bool.{eqb-false}
@@ -37,7 +37,7 @@ module _ (k : KindMeaning) (m : MethodMeaning) where
       (subst (λ bs. rework k m s.order box no_rework s.lines bs ≡ Ok N.work) marks N.works))
 
   -- the new ends are good, since they lie inside the old ones
-  pub narrowed-ends : (what : Standing) (s : State) (v : ℕ) (x y : Float) → s.box ≡ box_of k what.ends → All (Good k.scale) what.ends →
+  pub narrowed-ends : (what : Standing) (s : State) (v : ℕ) (x y : Float) → s.box ≡ box_of k what.ends → AllByRecursion (Good k.scale) what.ends →
       v < length s.box → sound_ends x y ≡ true → inside (get_or s.box v no_variable) x y ≡ true → Good k.scale (x, y)
   unfolding variable
   narrowed-ends what s v x y b G l f i =

@@ -1,7 +1,7 @@
 -- A new sheet takes the standing texts: it opens on ends that are still good, its one office pays into one account, and the pairs of
 -- twelve texts stay far below the largest allowance. Assumes nothing.
 use Rattle.std.proofs.Common.{◌≡◌, ℕ, ◌+◌, ◌*◌, ◌<◌, ◌≤◌, Bool, true, ltb, leb, List, [], ◌∷◌, ◌++◌, length, is_ok, Ok, sum_by, Equal, sym, refl, ap, ◌∙◌, subst, subst₂, append_assoc, append-nil, arith}
-use Rattle.std.specs.List.{AllByRecursion as All}
+use Rattle.std.specs.List.{AllByRecursion}
 use Rattle.std.proofs.lemmas.List.{length_push, map_push}
 use Rattle.std.proofs.ByRecursion.{All-push}
 use Rattle.std.proofs.lemmas.Bool.{and_parts, and_from, or_right, leb-true, le-leb, lt-ltb}
@@ -60,7 +60,7 @@ module _ (k : KindMeaning) (m : MethodMeaning) (office records : ℕ) (known : k
     own : Own office s.accounts
     rich : s.allowance ≡ largest_allowance
     cheap : sum_by (λ a. a.pairs) s.accounts ≤ length s.lines * 2856000
-    few : All (λ w. Few w.model) (workeds s.lines)
+    few : AllByRecursion (λ w. Few w.model) (workeds s.lines)
 
   -- a text of at most 255 bytes makes at most so many pairs
   pairs_bound : (s : State) (text : List ℕ) (w : Worked) → Ready s → text_fits text ≡ true → work k m (ground s.order s.box (workeds s.lines)) text ≡ Ok w → Few w.model × (w.pairs ≤ 2856000)
@@ -99,9 +99,9 @@ module _ (k : KindMeaning) (m : MethodMeaning) (office records : ℕ) (known : k
       }
 
   -- every posting is accepted, and the lines come to be those that follow
-  takes_all : (s : State) (ls : List Line) → Ready s → length s.lines + length ls ≤ 12 → All (λ t. text_fits t ≡ true) (texts ls) →
+  takes_all : (s : State) (ls : List Line) → Ready s → length s.lines + length ls ≤ 12 → AllByRecursion (λ t. text_fits t ≡ true) (texts ls) →
       Follow k m s.order s.box (workeds s.lines) ls →
-      All (λ a. is_ok a ≡ true) (answers k m s (postings office records (texts ls))) × (workeds (run k m s (postings office records (texts ls))).lines ≡ workeds s.lines ++ workeds ls)
+      AllByRecursion (λ a. is_ok a ≡ true) (answers k m s (postings office records (texts ls))) × (workeds (run k m s (postings office records (texts ls))).lines ≡ workeds s.lines ++ workeds ls)
   unfolding run answers
   takes_all s [] R n f F = (tt, sym (append-nil (workeds s.lines)))
   takes_all s (l ∷ ls) R n f F =
@@ -113,7 +113,7 @@ module _ (k : KindMeaning) (m : MethodMeaning) (office records : ℕ) (known : k
       (accepts s l.text l.worked R (omega arith) f.0 F.0) in
       let (a, b) = takes_all new ls (ready s l.text l.worked R f.0 F.0) (omega (arith, length_push s.lines here)) f.1
       (subst (λ below. Follow k m s.order s.box below ls) (sym pushed) F.1) in
-      subst (λ (o : Outcome Answer). ((is_ok o.answer ≡ true) × All (λ x. is_ok x ≡ true) (answers k m o.state (postings office records (texts ls))))
+      subst (λ (o : Outcome Answer). ((is_ok o.answer ≡ true) × AllByRecursion (λ x. is_ok x ≡ true) (answers k m o.state (postings office records (texts ls))))
       × (workeds (run k m o.state (postings office records (texts ls))).lines ≡ workeds s.lines ++ workeds (l ∷ ls)))
       (sym stepped) ((refl, a), b ∙ ap (λ ws. ws ++ workeds ls) pushed ∙ append_assoc (workeds s.lines) (l.worked ∷ []) (workeds ls))
 
@@ -143,6 +143,6 @@ module _ (k : KindMeaning) (m : MethodMeaning) (given : Opening) (what : Standin
         let few = I.few in
         let ready : Ready k m office records known (le-leb 21 records enough) (opened k fresh) = record { own = tt; rich = refl; cheap = omega arith; few = tt } in
         let (a, b) = takes_all k m office records known (le-leb 21 records enough) (opened k fresh) s.lines ready (omega arith)
-        (subst (All (λ t. text_fits t ≡ true)) (sym I.same-texts) I.proper) fresh_follow in
+        (subst (AllByRecursion (λ t. text_fits t ≡ true)) (sym I.same-texts) I.proper) fresh_follow in
         subst (λ ts. TakenAlike k m (opened k fresh) (postings office records ts) s) I.same-texts (record { accepted = a; alike = b });
   }

@@ -2,7 +2,7 @@
 use Rattle.std.proofs.Common.{◌≡◌, ℕ, true, false, leb, List, [], length, IsErrAnd, IfOk, Ok, Err, Result, sym, refl, ap, ◌∙◌, arith}
 use lib.Ieee.{Float}
 use Rattle.std.specs.Result.{result_map_both}
-use Rattle.std.specs.List.{AllByRecursion as All}
+use Rattle.std.specs.List.{AllByRecursion}
 use Rattle.std.proofs.lemmas.List.{length-map}
 use Rattle.std.proofs.lemmas.Bool.{and_parts, leb-true}
 use Rattle.interval.specs.declared.reason.Reason.TheVariants.{OrderOutOfRange, VariablesOutOfRange, AllowanceOutOfRange}
@@ -68,7 +68,7 @@ module _ (k : KindMeaning) (order : ℕ) (ends : List (Float × Float)) (allowan
               ap (λ box. Ok (record { order = order; box = box; allowance = allowance; lines = []; accounts = [] })) (packs_front 6 no_variable vs (length ends) (boxed S ends) packs ∙ ap (λ n. boxed n ends) scale)
               ∙ sym (passed ∙ ap (λ r. and_then r (λ _. Ok (opened k (opening order ends allowance)))) made.0)
 
-          pub opens_shape : All FitVariable (boxed S ends) → Shape (opened_record order allowance (length ends) vs)
+          pub opens_shape : AllByRecursion FitVariable (boxed S ends) → Shape (opened_record order allowance (length ends) vs)
           opens_shape fit = record {
             order = from_to_in 1 8 order a;
             allowance = from_to_in 1 largest_allowance allowance c;

@@ -1,7 +1,7 @@
 -- The range of a model's polynomial can be asked for, and added to the remainder. Assumes nothing.
 use Rattle.std.proofs.Common.{◌≡◌, ℕ, ◌+◌, ◌-◌, ◌*◌, List, [], ◌∷◌, length, take, ap, ◌∙◌, suc-mul, arith}
 use native.Mathlib.Nat.{sub-zero}
-use Rattle.std.specs.List.{AllByRecursion as All}
+use Rattle.std.specs.List.{AllByRecursion}
 use Rattle.std.proofs.ByRecursion.{All-weaker}
 use Rattle.std.proofs.lemmas.Int.{ints}
 use Rattle.interval.specs.declared.marks.Interval.{Interval}
@@ -17,7 +17,7 @@ use Rattle.taylor.proofs.Bounds.{range-order}
 use Rattle.taylor.proofs.Tests.{normal_polynomial}
 
 -- the plain range has at most so many marks for each term
-plain-sized : (n : ℕ) (ts : List Term) → All (λ t. Sized n t.coefficient) ts → Sized (length ts * n) (plain ts)
+plain-sized : (n : ℕ) (ts : List Term) → AllByRecursion (λ t. Sized n t.coefficient) ts → Sized (length ts * n) (plain ts)
 unfolding plain
 plain-sized n [] A = record { low = omega (arith, ints); order = omega (arith, ints); high = omega (arith, ints) }
 plain-sized n (t ∷ ts) A =

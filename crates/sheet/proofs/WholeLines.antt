@@ -1,7 +1,7 @@
 -- Exact in the whole kind: each clean line over whole constants has points for coefficients, since it is what `work` gives from such lines;
 -- and a model of points that carries a value has that value. Assumes nothing.
 use Rattle.std.proofs.Common.{◌≡◌, ℕ, zero, suc, ◌+◌, ◌<◌, true, List, [], ◌∷◌, ◌++◌, length, get_or, Some, None, sym, refl, ap, ◌∙◌, subst, subst₂, append_assoc, append-nil, arith}
-use Rattle.std.specs.List.{AllByRecursion as All}
+use Rattle.std.specs.List.{AllByRecursion}
 use Rattle.std.proofs.lemmas.List.{length_push, length-map, get_or-map}
 use Rattle.rational.specs.Fraction.{Fraction}
 use Rattle.interval.specs.declared.variable.Variable.{Variable}
@@ -54,7 +54,7 @@ module _ (W : WorkWhole) (k : KindMeaning) (m : MethodMeaning) (K : Whole k) (or
 
 module _ (S : WorkSound) (W : WorkWhole) (k : KindMeaning) (m : MethodMeaning) (given : Opening) (what : Standing) (s : State) (I : Invariant k m given what s) (K : Whole k)
     (point : List Fraction) (P : InBox (box_of k what.ends) point) (n : ℕ) (h : n < length what.texts) where
-  pub line-exact : (line_at s n).worked.clean ≡ true → All WholeToken (get_or (built_from what.texts) n []) →
+  pub line-exact : (line_at s n).worked.clean ≡ true → AllByRecursion WholeToken (get_or (built_from what.texts) n []) →
       (v : Fraction) × (exact_marks k.scale point what.texts n ≡ Some v) × ExactModel (units (box_of k what.ends) point) (model_at s n) v
   line-exact c built =
       let us = units (box_of k what.ends) point in

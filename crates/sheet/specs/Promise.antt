@@ -1,7 +1,7 @@
 -- THE PROMISE of a sheet, in five parts: for every kind of coefficient, every ranging method, every accepted opening and every log of
 -- turns after it. Assumes nothing.
 use Rattle.std.specs.Prelude.{◌≡◌, ℕ, ◌+◌, ◌<◌, ◌≤◌, Bool, true, false, cond, List, [], ◌∷◌, ◌++◌, map, length, is_ok, Some, Ok, count_by, slice_index_or, Float}
-use Rattle.std.specs.List.{AllByRecursion as All}
+use Rattle.std.specs.List.{AllByRecursion}
 use Rattle.rational.specs.Fraction.{Fraction}
 use Rattle.interval.specs.declared.variable.Variable.{Variable as Var}
 use Rattle.interval.specs.Kind.{KindMeaning}
@@ -43,7 +43,7 @@ postings office records ts = map (λ t. Post office records t) ts
 
 -- every turn is accepted, and each line comes to the same model, pairs and clean mark as here
 pub record TakenAlike (k : KindMeaning) (m : MethodMeaning) (new : State) (ts : List Turn) (here : State) : Type 0 where
-  pub accepted : All (λ a. is_ok a ≡ true) (answers k m new ts)
+  pub accepted : AllByRecursion (λ a. is_ok a ≡ true) (answers k m new ts)
   pub alike : workeds (run k m new ts).lines ≡ workeds here.lines
 
 -- a new sheet opens on the standing ends, and takes the standing texts from any one office
@@ -81,7 +81,7 @@ NarrowingsTrue k m given log = (earlier later : Log) (office records v : ℕ) (x
 -- is built from whole constants has nothing left to its remainder, and both ends of its polynomial's value are the exact value
 abbrev pub ExactInWhole : KindMeaning → Standing → State → Type 0
 ExactInWhole k what s = Whole k → (point : List Fraction) → InBox (standing_box k what) point → (n : ℕ) → n < length what.texts →
-    (line_at s n).worked.clean ≡ true → All WholeToken (slice_index_or (built_from what.texts) n []) →
+    (line_at s n).worked.clean ≡ true → AllByRecursion WholeToken (slice_index_or (built_from what.texts) n []) →
     (v : Fraction) × (exact_marks k.scale point what.texts n ≡ Some v) × ExactModel (units (standing_box k what) point) (model_at s n) v
 
 -- ---- THE PROMISE

@@ -1,6 +1,6 @@
 -- The shape that the record of a sheet keeps. Assumes nothing.
 use Rattle.std.specs.Prelude.{ℕ, ◌≤◌, List, take, sum_by}
-use Rattle.std.specs.List.{AllByRecursion as All}
+use Rattle.std.specs.List.{AllByRecursion}
 use Rattle.interval.specs.declared.variable.Variable.{Variable}
 use Rattle.interval.specs.Interval.{limit, Bounded}
 use Rattle.table.specs.Order.{by_number}
@@ -30,7 +30,7 @@ pub record FitVariable (v : Variable) : Type 0 where
 pub record BoxShape (count : ℕ) (vs : List Variable) : Type 0 where
   pub size : FromTo 1 6 count
   pub packs : Packs 6 no_variable vs count (take count vs)
-  pub each : All FitVariable (take count vs)
+  pub each : AllByRecursion FitVariable (take count vs)
 
 -- a text of 1 to 255 bytes with zeros after them, and the record of a model whose ends fit
 pub record LineShape (l : LineRecord) : Type 0 where
@@ -41,7 +41,7 @@ pub record LineShape (l : LineRecord) : Type 0 where
 -- up to twelve lines stand, and past them is nothing but zeros
 pub record LinesShape (count : ℕ) (ls : List LineRecord) : Type 0 where
   pub packs : Packs 12 zero_line ls count (take count ls)
-  pub each : All LineShape (take count ls)
+  pub each : AllByRecursion LineShape (take count ls)
 
 -- up to eight accounts, ascending by office, whose pairs are within the allowance
 pub record AccountsShape (allowance count : ℕ) (entries : List Account) : Type 0 where

@@ -1,7 +1,7 @@
 // Opening a sheet.
 ghost use Rattle.std.specs.Prelude.{◌≡◌, ◌≤◌, length, IfOk, OnOk};
 ghost use Rattle.std.specs.Result.{result_map_both};
-ghost use Rattle.std.specs.List.{AllByRecursion as All};
+ghost use Rattle.std.specs.List.{AllByRecursion};
 ghost use Rattle.interval.specs.Scale.{per_unit};
 ghost use Rattle.sheet.specs.Boxes.{boxed, made_box};
 ghost use Rattle.sheet.specs.Opening.{opening, open_sheet};
@@ -32,7 +32,7 @@ const NO_ACCOUNT: Account = Account {
 fn variables(scale: Scale, ends: &[(f64, f64)]) -> Result<[Variable; 6], Refusal>
     requires { length ends.now ≤ 6 }
     ensures value { result ≡ made_box (per_unit scale) ends.now }
-    ensures fit { OnOk result (All FitVariable (boxed (per_unit scale) ends.now)) }
+    ensures fit { OnOk result (AllByRecursion FitVariable (boxed (per_unit scale) ends.now)) }
 {
     let mut made = [NO_VARIABLE; 6];
     for (i, (lower, upper)) in ends.iter().enumerate() {

@@ -1,7 +1,7 @@
 -- Ascending tables: every key is below all later ones, as entries come and go. Assumes nothing.
 use Rattle.std.proofs.Common.{◌≡◌, zero, suc, Bool, true, false, cond, List, [], ◌∷◌, filter, Ordering, Less, Equal, Greater, sym, refl, ap, ◌∙◌, subst, true≢false, arith}
 use Rattle.std.specs.Ordering.{is_lt, is_gt, is_eq, ordering_reverse}
-use Rattle.std.specs.List.{AllByRecursion as All}
+use Rattle.std.specs.List.{AllByRecursion}
 use Rattle.std.proofs.ByRecursion.{All-get_or, all_kept_by}
 use Rattle.table.specs.Order.{Order}
 use Rattle.table.specs.Table.{by_rank, entered, Next, Ascending}
@@ -37,7 +37,7 @@ module _ {K : Type 0} (o : Order K) where
 module _ {E K : Type 0} (o : Order K) (key : E → K) where
   -- all keys of es are above k
   abbrev pub Above : K → List E → Type 0
-  Above k es = All (λ e. o.rank k (key e) ≡ Less) es
+  Above k es = AllByRecursion (λ e. o.rank k (key e) ≡ Less) es
 
   -- what comes before the first comes before all
   pub before_all : (k : K) (es : List E) → Next o key k es → Ascending o key es → Above k es

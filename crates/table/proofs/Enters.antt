@@ -4,7 +4,7 @@ use Rattle.std.proofs.lemmas.List.Edits.{length-insert}
 use Rattle.std.proofs.ByRecursion.{All-get_or}
 use Rattle.std.proofs.lemmas.List.{get_or-take, get_or_read, length-set, length-take-le, set-append_left, take-append-drop}
 use Rattle.std.proofs.lemmas.Bool.{le-leb, lt-leb}
-use Rattle.std.specs.List.{insert, AllByRecursion as All}
+use Rattle.std.specs.List.{insert, AllByRecursion}
 use Rattle.table.specs.Order.{Order}
 use Rattle.table.specs.Table.{place, has_key, entered}
 use Rattle.table.specs.Slice.{over}
@@ -15,7 +15,7 @@ module _ {E : Type 0} (slice : List E) (n i : ℕ) (x : E) (room : n ≤ length 
   read d = get_or-take n slice i d low ∙ sym (get_or_read slice i x (omega arith) is d)
 
   -- what holds of all entries in use holds of the one at place i
-  pub all_in_use : (P : E → Type 0) → All P (take n slice) → P x
+  pub all_in_use : (P : E → Type 0) → AllByRecursion P (take n slice) → P x
   all_in_use P h = let short : i < length (take n slice) = rw length-take-le (low) in subst P (read x) (All-get_or P (take n slice) i x short h)
 
   module _ {K : Type 0} (o : Order K) (key : E → K) (join : E → E → E) (e : E) (is-place : i ≡ place o key (take n slice) (key e)) (found : has_key o key (take n slice) (key e) ≡ true) where

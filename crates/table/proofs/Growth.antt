@@ -1,6 +1,6 @@
 -- A table grows by one entry or none; what holds of its entries is kept. Assumes nothing.
 use Rattle.std.proofs.Common.{◌≡◌, ℕ, zero, suc, ◌+◌, ◌≤◌, Bool, true, false, cond, List, [], ◌∷◌, length, take, fold, Ordering, Less, Equal, Greater, refl, arith}
-use Rattle.std.specs.List.{AllByRecursion as All}
+use Rattle.std.specs.List.{AllByRecursion}
 use Rattle.std.proofs.ByRecursion.{All-weaker}
 use Rattle.table.specs.Order.{Order}
 use Rattle.table.specs.Table.{by_rank, has_key, entered}
@@ -39,14 +39,14 @@ module _ {E K : Type 0} (o : Order K) (key : E → K) (join : E → E → E) whe
   folded_front ts (e ∷ es) (suc i) = folded_front (entered o key join ts e) es i
 
   -- what holds of the entries, of the new one and of each of them joined with it holds afterwards
-  pub all_entered : (P Q : E → Type 0) (e : E) → ((x : E) → P x → Q x) → Q e → ((x : E) → P x → Q (join x e)) → (ts : List E) → All P ts → All Q (entered o key join ts e)
+  pub all_entered : (P Q : E → Type 0) (e : E) → ((x : E) → P x → Q x) → Q e → ((x : E) → P x → Q (join x e)) → (ts : List E) → AllByRecursion P ts → AllByRecursion Q (entered o key join ts e)
   all_entered P Q e keep new both [] a = (new, tt)
   all_entered P Q e keep new both (x ∷ xs) a = go (o.rank (key x) (key e)) (all_entered P Q e keep new both xs a.1)
     where
-      rest : All Q xs
+      rest : AllByRecursion Q xs
       rest = All-weaker P Q keep xs a.1
 
-      go : (r : Ordering) → All Q (entered o key join xs e) → All Q (by_rank r (x ∷ entered o key join xs e) (join x e ∷ xs) (e ∷ x ∷ xs))
+      go : (r : Ordering) → AllByRecursion Q (entered o key join xs e) → AllByRecursion Q (by_rank r (x ∷ entered o key join xs e) (join x e ∷ xs) (e ∷ x ∷ xs))
       go Less h = (keep x a.0, h)
       go Equal h = (both x a.0, rest)
       go Greater h = (new, (keep x a.0, rest))

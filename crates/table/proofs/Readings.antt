@@ -1,6 +1,6 @@
 -- What is read under a key, as entries come and go. Assumes nothing.
 use Rattle.std.proofs.Common.{◌≡◌, Bool, true, false, cond, List, [], ◌∷◌, get_or, filter, Ordering, Less, Equal, Greater, sym, refl, ap, ◌∙◌, subst}
-use Rattle.std.specs.List.{AllByRecursion as All}
+use Rattle.std.specs.List.{AllByRecursion}
 use Rattle.std.proofs.ByRecursion.{all_kept_by}
 use Rattle.table.specs.Order.{Order}
 use Rattle.table.specs.Table.{by_rank, place, has_key, entry, entered, Ascending}
@@ -34,11 +34,11 @@ module _ {E K : Type 0} (o : Order K) (key : E → K) where
       go Greater e rest = h
 
   -- every entry is found under its key
-  pub entry_own : (d : E → E) (es : List E) → Ascending o key es → All (λ e. entry o key (d e) es (key e) ≡ e) es
+  pub entry_own : (d : E → E) (es : List E) → Ascending o key es → AllByRecursion (λ e. entry o key (d e) es (key e) ≡ e) es
   entry_own d [] a = tt
   entry_own d (x ∷ xs) a = (entry_here (d x) x xs (key x) (same_rank o (key x)), go xs (before_all o key (key x) xs a.0 a.1) (entry_own d xs a.1))
     where
-      go : (ys : List E) → Above o key (key x) ys → All (λ e. entry o key (d e) xs (key e) ≡ e) ys → All (λ e. entry o key (d e) (x ∷ xs) (key e) ≡ e) ys
+      go : (ys : List E) → Above o key (key x) ys → AllByRecursion (λ e. entry o key (d e) xs (key e) ≡ e) ys → AllByRecursion (λ e. entry o key (d e) (x ∷ xs) (key e) ≡ e) ys
       go [] l h = tt
       go (y ∷ ys) l h = (entry_less (d y) x xs (key y) l.0 ∙ h.0, go ys l.1 h.1)
 

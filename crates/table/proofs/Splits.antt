@@ -1,7 +1,7 @@
 -- The place of a key splits a table, and tells whether the key stands. Assumes nothing.
 use Rattle.std.proofs.Common.{◌≡◌, ℕ, zero, suc, ◌<◌, true, false, List, [], ◌∷◌, length, take, drop, Ordering, Less, Equal, Greater, sym, refl, ap, ◌∙◌, subst, true≢false, arith}
 use Rattle.std.specs.Ordering.{is_lt}
-use Rattle.std.specs.List.{HoldsAt, ContainsAt as Has, AllByRecursion as All}
+use Rattle.std.specs.List.{HoldsAt, ContainsAt as Has, AllByRecursion}
 use Rattle.std.proofs.ByRecursion.{All-weaker, all-has}
 use Rattle.table.specs.Order.{Order}
 use Rattle.table.specs.Table.{place, has_key, Ascending}
@@ -17,11 +17,11 @@ module _ {E K : Type 0} (o : Order K) (key : E → K) where
   abbrev NotBelow : K → E → Type 0
   NotBelow k e = is_lt (o.rank (key e) k) ≡ false
 
-  not_below : (k : K) (es : List E) → Above o key k es → All (NotBelow k) es
+  not_below : (k : K) (es : List E) → Above o key k es → AllByRecursion (NotBelow k) es
   not_below k es h = All-weaker (λ e. o.rank k (key e) ≡ Less) (NotBelow k) (λ e l. ap is_lt (from_less o k (key e) l)) es h
 
   abbrev Split : List E → K → Type 0
-  Split es k = All (Below k) (take (place o key es k) es) × All (NotBelow k) (drop (place o key es k) es)
+  Split es k = AllByRecursion (Below k) (take (place o key es k) es) × AllByRecursion (NotBelow k) (drop (place o key es k) es)
 
   split_here : (x : E) (xs : List E) (k : K) → place o key (x ∷ xs) k ≡ 0 → NotBelow k x → Above o key k xs → Split (x ∷ xs) k
   split_here x xs k p n h = rw p (tt, (n, not_below k xs h))

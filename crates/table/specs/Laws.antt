@@ -2,7 +2,7 @@
 use Rattle.std.specs.Prelude.{◌≡◌, ℕ, ◌+◌, ◌<◌, Bool, true, false, cond, List, length, take, drop, Decides, filter, ◌≢◌, slice_index_or}
 use Rattle.std.specs.declared.cmp.Ordering.TheVariants.{Less, Equal}
 use Rattle.std.specs.Ordering.{is_lt, ordering_reverse}
-use Rattle.std.specs.List.{ContainsAt as Has, AllByRecursion as All}
+use Rattle.std.specs.List.{ContainsAt as Has, AllByRecursion}
 use Rattle.table.specs.Monomial.{Monomial, degree, even, multiplied, root}
 use Rattle.table.specs.Order.{Order}
 use Rattle.table.specs.Table.{place, has_key, entry, entered, Ascending}
@@ -28,7 +28,7 @@ module _ {E K : Type 0} (o : Order K) (key : E → K) where
   abbrev pub Splits : Type 0
   Splits =
       (es : List E) (k : K) → Ascending o key es
-      → All (λ e. o.rank (key e) k ≡ Less) (take (place o key es k) es) × All (λ e. is_lt (o.rank (key e) k) ≡ false) (drop (place o key es k) es)
+      → AllByRecursion (λ e. o.rank (key e) k ≡ Less) (take (place o key es k) es) × AllByRecursion (λ e. is_lt (o.rank (key e) k) ≡ false) (drop (place o key es k) es)
 
   -- a key is found exactly if an entry has it
   abbrev pub Tells : Type 0

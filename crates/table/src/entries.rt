@@ -1,6 +1,6 @@
 // The one table: entries in a lent slice, ascending, one a key; the first `count` places are in use.
 ghost use Rattle.std.specs.Prelude.{◌≡◌, ◌<◌, ◌≤◌, true, not, length, is_ok, if◌then◌else◌, filter, nat_le};
-ghost use Rattle.std.specs.List.{AllByRecursion as All};
+ghost use Rattle.std.specs.List.{AllByRecursion};
 ghost use Rattle.table.specs.Table.{place, has_key, entered};
 ghost use Rattle.table.specs.Slice.{over, packed};
 ghost use Rattle.table.specs.View.{slice_of, in_use};
@@ -33,7 +33,7 @@ impl<E: Entry> Table<'_, E> {
     // Joins the entry of the same key, or takes its place between its neighbours.
     pub fn enter(&mut self, entry: E) -> Result<(), Full>
         requires room { self.old.count ≤ length (slice_of self.old) }
-        requires joins { All (λ x. E.joinable x entry) (in_use self.old) }
+        requires joins { AllByRecursion (λ x. E.joinable x entry) (in_use self.old) }
         ensures answer { is_ok result ≡ nat_le (length (entered E.Key.TotalOrder.order E.keyed E.joined (in_use self.old) entry)) (length (slice_of self.old)) }
         ensures after { slice_of self.new ≡ (if is_ok result then over (entered E.Key.TotalOrder.order E.keyed E.joined (in_use self.old) entry) (slice_of self.old) else slice_of self.old) }
         ensures count { self.new.count ≡ (if is_ok result then length (entered E.Key.TotalOrder.order E.keyed E.joined (in_use self.old) entry) else self.old.count) }

@@ -1,6 +1,6 @@
 // Moves within a slice whose first `count` places are in use.
 ghost use Rattle.std.specs.Prelude.{◌≡◌, ◌+◌, ◌<◌, ◌≤◌, true, false, not, ◌++◌, length, take, drop, is_ok, if◌then◌else◌, filter, nat_le};
-ghost use Rattle.std.specs.List.{insert, AllByRecursion as All};
+ghost use Rattle.std.specs.List.{insert, AllByRecursion};
 ghost use Rattle.table.specs.Table.{place, has_key, entered};
 ghost use Rattle.table.specs.Slice.{over, packed};
 
@@ -12,7 +12,7 @@ pub fn join_at<E: Entry>(entries: &mut [E], count: usize, at: usize, entry: E)
     requires room { (count ≤ length entries.old) × (at < count) }
     requires place { at ≡ place E.Key.TotalOrder.order E.keyed (take count entries.old) (E.keyed entry) }
     requires found { has_key E.Key.TotalOrder.order E.keyed (take count entries.old) (E.keyed entry) ≡ true }
-    requires joins { All (λ x. E.joinable x entry) (take count entries.old) }
+    requires joins { AllByRecursion (λ x. E.joinable x entry) (take count entries.old) }
     ensures after { entries.new ≡ over (entered E.Key.TotalOrder.order E.keyed E.joined (take count entries.old) entry) entries.old }
     ensures size { length (entered E.Key.TotalOrder.order E.keyed E.joined (take count entries.old) entry) ≡ count }
 {

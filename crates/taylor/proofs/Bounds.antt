@@ -1,6 +1,6 @@
 -- What a polynomial attains lies between the two ends of its value, and so in every method's range. Assumes nothing.
 use Rattle.std.proofs.Common.{List, [], ◌∷◌, pos, ◌≤ℤ◌, refl}
-use Rattle.std.specs.List.{AllByRecursion as All}
+use Rattle.std.specs.List.{AllByRecursion}
 use Rattle.rational.specs.Fraction.{Fraction, whole}
 use Rattle.rational.proofs.Rational.{ℚ, ⟦◌⟧, ◌+ℚ◌, ◌*ℚ◌, of, of_is, ◌≤ℚ◌, le_in}
 use Rattle.rational.proofs.Order.{≤ℚ_refl, ≤ℚ_trans, of_mono}
@@ -37,7 +37,7 @@ lowest : List Term → ℚ
 lowest [] = of (pos 0)
 lowest (t ∷ ts) = ⟦ whole t.coefficient.lower ⟧ *ℚ value [] t.monomial +ℚ lowest ts
 
-lowest_value : (ts : List Term) → All FitTerm ts → Value [] ts (lowest ts)
+lowest_value : (ts : List Term) → AllByRecursion FitTerm ts → Value [] ts (lowest ts)
 unfolding lowest
 lowest_value [] A = refl
 lowest_value (t ∷ ts) A =

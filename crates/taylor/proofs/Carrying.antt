@@ -1,7 +1,7 @@
 -- Each operation holds the exact outcome of what its operands hold, in rational numbers. Assumes nothing.
 use Rattle.std.proofs.Common.{◌≡◌, ℕ, List, [], ◌∷◌, length, pos, Ok, sym, refl, ◌∙◌}
 use mathlib.Core.Quot.{sound}
-use Rattle.std.specs.List.{AllByRecursion as All}
+use Rattle.std.specs.List.{AllByRecursion}
 use Rattle.std.proofs.ByRecursion.{All-weaker}
 use Rattle.rational.specs.Fraction.{Fraction}
 use Rattle.rational.proofs.Solver.{lit, ◌⊕◌, ◌⊗◌, ⊖◌, ◌⊝◌, ◌≈◌, ring1, ring2, ring4, ring5, combine}
@@ -95,7 +95,7 @@ module _ (us : List Fraction) where
     abbrev inverse : ℚ
     inverse = part us k.scale (scale-above k)
 
-    fit-six : (ts : List Term) → All FitTerm ts → Six ts
+    fit-six : (ts : List Term) → AllByRecursion FitTerm ts → Six ts
     fit-six ts A = All-weaker FitTerm (λ t. length t.monomial ≡ 6) (λ t h. h.six) ts A
 
     -- ---- products

@@ -1,7 +1,7 @@
 -- Terms that are gathered into a table stay a draft, and a draft without its [0, 0] is the polynomial of a model.
 -- Assumes nothing.
 use Rattle.std.proofs.Common.{◌≡◌, ℕ, suc, ◌+◌, ◌*◌, ◌<◌, ◌≤◌, Bool, true, false, cond, not, List, [], ◌∷◌, length, ◌≤ℤ◌, fold, sym, refl, ap, ◌∙◌, suc-mul, arith, length-append}
-use Rattle.std.specs.List.{AllByRecursion as All}
+use Rattle.std.specs.List.{AllByRecursion}
 use Rattle.std.proofs.ByRecursion.{All-append, All-weaker, all_kept_by, kept_by_passes}
 use Rattle.std.proofs.lemmas.Bool.{leb-true, not-true, and_parts}
 use Rattle.interval.specs.declared.marks.Interval.{Interval}
@@ -22,13 +22,13 @@ use Rattle.taylor.specs.Product.{pair, row, pairs, kept, keep, cut, gather}
 use Rattle.taylor.proofs.Tables.{entered-ascends, kept-ascends, length-kept}
 use Rattle.taylor.proofs.Sizes.{sized-reach, times-order}
 
-pub all_both : {X : Type 0} (P Q R : X → Type 0) → ((x : X) → P x → Q x → R x) → (xs : List X) → All P xs → All Q xs → All R xs
+pub all_both : {X : Type 0} (P Q R : X → Type 0) → ((x : X) → P x → Q x → R x) → (xs : List X) → AllByRecursion P xs → AllByRecursion Q xs → AllByRecursion R xs
 all_both P Q R f [] A B = tt
 all_both P Q R f (x ∷ xs) A B = (f x A.0 B.0, all_both P Q R f xs A.1 B.1)
 
 -- six exponents each
 abbrev pub Six : List Term → Type 0
-Six ts = All (λ t. length t.monomial ≡ 6) ts
+Six ts = AllByRecursion (λ t. length t.monomial ≡ 6) ts
 
 -- ---- one more term
 draft_term_more : {d m : ℕ} (n : ℕ) {t : Term} → m ≤ n → DraftTerm d m t → DraftTerm d n t
@@ -45,7 +45,7 @@ draft-entered {d} {a} {b} t ts D s = record {
       (λ x r. record { six = r.six; low = r.low; sized = sized-plus r.sized s.sized }) ts D.each;
 }
 
-pub draft-joins : {d : ℕ} (a b : ℕ) (ts qs : List Term) → Draft d a ts → All (DraftTerm d b) qs → Draft d (a + length qs * b) (joins ts qs)
+pub draft-joins : {d : ℕ} (a b : ℕ) (ts qs : List Term) → Draft d a ts → AllByRecursion (DraftTerm d b) qs → Draft d (a + length qs * b) (joins ts qs)
 draft-joins {d} a b ts [] D A = draft_more (a + 0 * b) (omega arith) D
 draft-joins {d} a b ts (q ∷ qs) D A =
     draft_more (a + suc (length qs) * b) (omega (arith, suc-mul (length qs) b))
@@ -53,12 +53,12 @@ draft-joins {d} a b ts (q ∷ qs) D A =
 
 -- ---- pairs
 module _ (S : ℕ) (P Q : Term → Type 0) (each : (p q : Term) → Q p → Q q → P (pair S p q)) where
-  row-each : (p : Term) (qs : List Term) → Q p → All Q qs → All P (row S p qs)
+  row-each : (p : Term) (qs : List Term) → Q p → AllByRecursion Q qs → AllByRecursion P (row S p qs)
   row-each p [] h A = tt
   row-each p (q ∷ qs) h A = (each p q h A.0, row-each p qs h A.1)
 
   -- what holds of the pair of any two terms holds of all pairs
-  pub pairs-each : (ps qs : List Term) → All Q ps → All Q qs → All P (pairs S ps qs)
+  pub pairs-each : (ps qs : List Term) → AllByRecursion Q ps → AllByRecursion Q qs → AllByRecursion P (pairs S ps qs)
   unfolding pairs
   pairs-each [] qs A B = tt
   pairs-each (p ∷ ps) qs A B = All-append P (row S p qs) (pairs S ps qs) (row-each p qs A.0 B) (pairs-each ps qs A.1 B)
@@ -75,7 +75,7 @@ length_pairs S (p ∷ ps) qs = omega (arith, length-append (row S p qs) (pairs S
 pub pairs-six : (S : ℕ) (ps qs : List Term) → Six ps → Six qs → Six (pairs S ps qs)
 pairs-six S ps qs = pairs-each S (λ t. length t.monomial ≡ 6) (λ t. length t.monomial ≡ 6) (λ p q a b. length-multiplied p.monomial q.monomial (a ∙ sym b) ∙ a) ps qs
 
-all_units : (ts : List Term) → All (λ t. Unit {0}) ts
+all_units : (ts : List Term) → AllByRecursion (λ t. Unit {0}) ts
 all_units [] = tt
 all_units (t ∷ ts) = (tt, all_units ts)
 
@@ -83,11 +83,11 @@ all_units (t ∷ ts) = (tt, all_units ts)
 abbrev pub Ordered : Term → Type 0
 Ordered t = t.coefficient.lower ≤ℤ t.coefficient.upper
 
-pub pairs_ordered : (S : ℕ) → 0 < S → (ps qs : List Term) → All Ordered (pairs S ps qs)
+pub pairs_ordered : (S : ℕ) → 0 < S → (ps qs : List Term) → AllByRecursion Ordered (pairs S ps qs)
 pairs_ordered S above ps qs = pairs-each S Ordered (λ t. Unit {0}) (λ p q a b. times-order S above p.coefficient q.coefficient) ps qs (all_units ps) (all_units qs)
 
 -- the test of all
-pub all_fit_in : (ts : List Term) → All Ordered ts → all_fit ts ≡ true → All (λ t. Fits t.coefficient) ts
+pub all_fit_in : (ts : List Term) → AllByRecursion Ordered ts → all_fit ts ≡ true → AllByRecursion (λ t. Fits t.coefficient) ts
 all_fit_in [] A t = tt
 all_fit_in (x ∷ xs) A t = let h = and_parts (fits x.coefficient) (all_fit xs) t in (fits-sized A.0 h.0, all_fit_in xs A.1 h.1)
 
@@ -110,7 +110,7 @@ module _ (k : KindMeaning) (order : ℕ) where
         remainder = sized_weaken (omega arith) (sized-plus G.remainder (sized-reach t.monomial f));
       }
 
-  pub gather_all : (a r : ℕ) (ts : List Term) (M : Model) → Six ts → All (λ t. Fits t.coefficient) ts → Gathering order a r M
+  pub gather_all : (a r : ℕ) (ts : List Term) (M : Model) → Six ts → AllByRecursion (λ t. Fits t.coefficient) ts → Gathering order a r M
       → Gathering order (a + length ts * limit) (r + length ts * twice_limit) (fold (gather k order) M ts)
   gather_all a r [] M A F G = record { draft = draft_more (a + 0 * limit) (omega arith) G.draft; remainder = sized_weaken (omega arith) G.remainder }
   gather_all a r (t ∷ ts) M A F G =

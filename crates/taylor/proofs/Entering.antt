@@ -1,6 +1,6 @@
 -- What one pair leaves in the record of the model that is gathered. Assumes nothing.
 use Rattle.std.proofs.Common.{◌≡◌, ℕ, ◌-◌, ◌^◌, ◌≤◌, leb, List, length, take, Some, Ok, sym, ap, ◌∙◌, subst, ap₂, lit≤}
-use Rattle.std.specs.List.{AllByRecursion as All}
+use Rattle.std.specs.List.{AllByRecursion}
 use Rattle.std.proofs.ByRecursion.{All-weaker}
 use Rattle.std.proofs.lemmas.Bool.{le-leb}
 use Rattle.interval.specs.declared.marks.Interval.{Interval}
@@ -27,7 +27,7 @@ pub packed_here : (N : ModelRecord) (ts : List Term) → Places N.terms N.count 
 packed_here N ts p = rw (packs_front 40 zero_term N.terms N.count ts p) p
 
 module _ (M : ModelRecord) (o : Open M) where
-  pub open_joins : (i : Interval) → Fits i → All (λ u. Summable u.coefficient × Summable i) (take M.count M.terms)
+  pub open_joins : (i : Interval) → Fits i → AllByRecursion (λ u. Summable u.coefficient × Summable i) (take M.count M.terms)
   open_joins i f = All-weaker (λ u. Summable u.coefficient) (λ u. Summable u.coefficient × Summable i) (λ u s. (s, sized_weaken (lit≤ tt) f)) (take M.count M.terms) o.sized.coefficients
 
   -- a reach that joins the remainder

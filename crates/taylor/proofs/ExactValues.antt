@@ -1,6 +1,6 @@
 -- A polynomial of points attains one value, which is both ends. Assumes nothing.
 use Rattle.std.proofs.Common.{◌≡◌, Bool, true, false, cond, List, [], ◌∷◌, pos, sym, refl, ap, ◌∙◌, subst, ap₂}
-use Rattle.std.specs.List.{AllByRecursion as All}
+use Rattle.std.specs.List.{AllByRecursion}
 use Rattle.rational.specs.Fraction.{Fraction, whole, ◌*ᶠ◌, minᶠ, maxᶠ}
 use Rattle.rational.proofs.Solver.{lit, ◌⊕◌, ◌≈◌, ring1}
 use Rattle.rational.proofs.Rational.{ℚ, ⟦◌⟧, ◌+ℚ◌, ◌*ℚ◌, of, of_is, ℚ_ring, add_is, mul_is, eq_out}
@@ -28,7 +28,7 @@ module _ (us : List Fraction) where
       let e : lower_times us t ≡ upper_times us t = ap (λ z. whole z *ᶠ monomial_value us t.monomial) p in
       (either _ (lower_times us t) (upper_times us t) e, either _ (upper_times us t) (lower_times us t) (sym e) ∙ sym e)
 
-  value-exact : (ts : List Term) (v : ℚ) → All (λ t. Point t.coefficient) ts → Value us ts v → (⟦ lower_value us ts ⟧ ≡ v) × (⟦ upper_value us ts ⟧ ≡ v)
+  value-exact : (ts : List Term) (v : ℚ) → AllByRecursion (λ t. Point t.coefficient) ts → Value us ts v → (⟦ lower_value us ts ⟧ ≡ v) × (⟦ upper_value us ts ⟧ ≡ v)
   unfolding lower_value upper_value
   value-exact [] v A e = (sym (of_is (pos 0)) ∙ sym e, sym (of_is (pos 0)) ∙ sym e)
   value-exact (t ∷ ts) v A (c, w, h, W, e) =

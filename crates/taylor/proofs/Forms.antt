@@ -2,7 +2,7 @@
 use Rattle.std.proofs.Common.{◌≡◌, ℕ, zero, suc, ◌*◌, ◌<◌, ◌≤◌, false, ◌&&◌, eqb, List, [], ◌∷◌, map, length, ℤ, pos, negsuc, neg_ℤ, nat_abs, Ok, Less, refl, ◌∙◌, ap₂, mul-le-mul, arith}
 use mathlib.Core.Bool.{and_comm}
 use lib.ListN.{length-map}
-use Rattle.std.specs.List.{AllByRecursion as All}
+use Rattle.std.specs.List.{AllByRecursion}
 use Rattle.std.proofs.ByRecursion.{All-weaker, All-map}
 use Rattle.std.proofs.lemmas.Int.{ints}
 use Rattle.interval.specs.declared.marks.Interval.{Interval}
@@ -113,7 +113,7 @@ pub difference_formed : (d : ℕ) (M N R : Model) → Formed d limit M → Forme
 difference_formed d M N R F G e = sum_formed d M (negated_model N) R F (negated_formed d limit N G) e
 
 -- ---- products
-normal-six : (ts : List Term) → All NormalTerm ts → Six ts
+normal-six : (ts : List Term) → AllByRecursion NormalTerm ts → Six ts
 normal-six ts A = All-weaker NormalTerm (λ t. length t.monomial ≡ 6) (λ t h. h.six) ts A
 
 pub gathering_keeps : (k : KindMeaning) (order : ℕ) → GatheringKeeps k order

@@ -1,6 +1,6 @@
 -- What an operand of a product offers: terms that a method may be asked about, and factors of pairs. Assumes nothing.
 use Rattle.std.proofs.Common.{◌≡◌, ℕ, ◌+◌, ◌≤◌, true, List, length, sym, arith}
-use Rattle.std.specs.List.{AllByRecursion as All}
+use Rattle.std.specs.List.{AllByRecursion}
 use Rattle.interval.specs.declared.marks.Interval.{Interval}
 use Rattle.interval.specs.Interval.{limit, Sized, Fits, fits, plus, times}
 use Rattle.interval.specs.Kind.{KindMeaning}
@@ -38,5 +38,5 @@ module _ {m : MethodMeaning} {r : ModelRecord} (h : Ready m r) where
   pub ready_polynomial : Polynomial (unpacked r).terms
   ready_polynomial = tested_polynomial m (unpacked r) h.tested
 
-  pub ready_factors : All Factor (unpacked r).terms
+  pub ready_factors : AllByRecursion Factor (unpacked r).terms
   ready_factors = all_both (λ t. Fits t.coefficient) (λ t. degree t.monomial ≤ greatest_order) Factor (λ t a b. record { fit = a; low = b }) (unpacked r).terms h.tested.sized.coefficients h.canonical.degrees

@@ -2,7 +2,7 @@
 use Rattle.std.proofs.Common.{◌≡◌, ℕ, ◌*◌, ◌<◌, Bool, true, false, cond, eqb, List, [], ◌∷◌, ℤ, pos, negsuc, ◌+ℤ◌, ◌*ℤ◌, neg_ℤ, Ok, sym, refl, ap, ◌∙◌, ap₂, mul-one, arith}
 use lib.Ieee.{Float}
 use Rattle.std.specs.Int.{int_min, int_max}
-use Rattle.std.specs.List.{AllByRecursion as All}
+use Rattle.std.specs.List.{AllByRecursion}
 use Rattle.std.proofs.ByRecursion.{All-weaker, All-map, all_kept_by}
 use Rattle.std.proofs.lemmas.Int.{ints, clamps}
 use Rattle.rational.specs.Fraction.{whole, ◌=ᶠ◌}
@@ -79,7 +79,7 @@ whole-hull x z e =
 
 -- ---- tables
 abbrev pub Points : List Term → Type 0
-Points ts = All (λ t. Point t.coefficient) ts
+Points ts = AllByRecursion (λ t. Point t.coefficient) ts
 
 pub plus-point : {i j : Interval} → Point i → Point j → Point (plus i j)
 plus-point p q = ap₂ ◌+ℤ◌ p q

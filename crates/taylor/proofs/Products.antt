@@ -2,7 +2,7 @@
 -- Assumes nothing.
 use Rattle.std.proofs.Common.{◌≡◌, ℕ, ◌<◌, Bool, true, false, cond, List, [], ◌∷◌, ◌++◌, length, pos, fold, sym, ap, ◌∙◌}
 use mathlib.Core.Quot.{sound}
-use Rattle.std.specs.List.{AllByRecursion as All}
+use Rattle.std.specs.List.{AllByRecursion}
 use Rattle.rational.specs.Fraction.{Fraction, whole, over, ◌*ᶠ◌}
 use Rattle.rational.proofs.Solver.{lit, ◌⊕◌, ◌⊗◌, ◌≈◌, ring1, ring2, ring3, ring4, ring5, ring6}
 use Rattle.rational.proofs.Rational.{ℚ, ⟦◌⟧, ◌+ℚ◌, ◌*ℚ◌, of, of_is, ℚ_ring, add_is, mul_is, over_is, over-unit}
@@ -97,7 +97,7 @@ module _ (us : List Fraction) (U : Units us) (k : KindMeaning) (order : ℕ) whe
       }
 
   -- pairs that fit, one after the other
-  pub gathered-holds : (ts : List Term) (M : Model) (x v : ℚ) → All (λ t. Fits t.coefficient) ts → Value us ts v → Holds us M x
+  pub gathered-holds : (ts : List Term) (M : Model) (x v : ℚ) → AllByRecursion (λ t. Fits t.coefficient) ts → Value us ts v → Holds us M x
       → Holds us (fold (gather k order) M ts) (x +ℚ v)
   gathered-holds [] M x v f e E = rw (e, ring1 ℚ_ring (λ x. x ⊕ lit (pos 0) ≈ x) tt x) E
   gathered-holds (t ∷ ts) M x v f (c, w, h, W, e) E =

@@ -1,7 +1,7 @@
 -- Terms enter the places of a record one after the other: what then stands there, and when there is no room. Assumes nothing.
 use Rattle.std.proofs.Common.{◌≡◌, ℕ, ◌+◌, ◌-◌, ◌*◌, ◌^◌, ◌<◌, ◌≤◌, Bool, true, false, cond, leb, List, [], ◌∷◌, ◌++◌, map, length, get_or, take, drop, set, replicate, Some, None, Ok, Err, Option, Result, sym, refl, ap, ◌∙◌, subst, arith}
 use native.Mathlib.Nat.{sub-zero}
-use Rattle.std.specs.List.{AllByRecursion as All}
+use Rattle.std.specs.List.{AllByRecursion}
 use Rattle.std.proofs.ByRecursion.{All-weaker, All-get_or}
 use Rattle.std.proofs.lemmas.List.{at_drop_more, at_drop_all, drop_at, length-set, get_or_default, get_or-append_right, get_or-drop, get_or-take, length-map, length-take-le}
 use Rattle.std.proofs.lemmas.List.Edits.{map_over_more}
@@ -67,7 +67,7 @@ pub record Adding (more total : List Term) (i : ℕ) (terms : List Term) (count 
   pub rest : joins (take count terms) (drop i more) ≡ total
   pub draft : Draft 8 (limit + i * limit) (take count terms)
   pub few : length more ≤ 40
-  pub each : All (DraftTerm 8 limit) more
+  pub each : AllByRecursion (DraftTerm 8 limit) more
 
 pub adding_room : {more total : List Term} {i : ℕ} {terms : List Term} {count : ℕ} → Adding more total i terms count → count ≤ length terms
 adding_room A = omega (arith, A.places.size, A.places.fits, A.long)
@@ -77,7 +77,7 @@ summable h s = sized_weaken h s
 
 module _ (more total : List Term) (i : ℕ) (terms : List Term) (count : ℕ) (A : Adding more total i terms count) where
   -- the term that comes can be joined to any other
-  pub joinable : (d : Term) → i < length more → All (λ u. Summable u.coefficient × Summable (get_or more i d).coefficient) (take count terms)
+  pub joinable : (d : Term) → i < length more → AllByRecursion (λ u. Summable u.coefficient × Summable (get_or more i d).coefficient) (take count terms)
   joinable d h =
       let few = A.few in
       let new : Summable (get_or more i d).coefficient = summable (omega arith) (All-get_or (DraftTerm 8 limit) more i d h A.each).sized in

@@ -1,6 +1,6 @@
 -- A model that passes the test is a polynomial whose coefficients fit, and every product in a power passes it. Assumes nothing.
 use Rattle.std.proofs.Common.{◌≡◌, ℕ, zero, suc, ◌≤◌, true, ◌&&◌, List, [], ◌∷◌, pos, Ok, refl, subst, arith}
-use Rattle.std.specs.List.{AllByRecursion as All}
+use Rattle.std.specs.List.{AllByRecursion}
 use Rattle.std.proofs.ByRecursion.{All-weaker}
 use Rattle.std.proofs.lemmas.Int.{ints}
 use Rattle.std.proofs.lemmas.Bool.{and_from}
@@ -24,16 +24,16 @@ use Rattle.taylor.proofs.Bounds.{range-order}
 use Rattle.taylor.proofs.Forms.{constant_formed, product_formed}
 
 module _ (m : MethodMeaning) where
-  fit-terms : (ts : List Term) → All NormalTerm ts → All (λ t. Sized limit t.coefficient) ts → All FitTerm ts
+  fit-terms : (ts : List Term) → AllByRecursion NormalTerm ts → AllByRecursion (λ t. Sized limit t.coefficient) ts → AllByRecursion FitTerm ts
   fit-terms ts A B = all_both NormalTerm (λ t. Sized limit t.coefficient) FitTerm (λ t a b. record { six = a.six; fit = b; some = a.some }) ts A B
 
-  pub normal_polynomial : (M : Model) → Normal M → All (λ t. Sized limit t.coefficient) M.terms → Polynomial M.terms
+  pub normal_polynomial : (M : Model) → Normal M → AllByRecursion (λ t. Sized limit t.coefficient) M.terms → Polynomial M.terms
   normal_polynomial M N f = record { few = N.few; ascends = N.ascends; fit = fit-terms M.terms N.each f }
 
   pub tested_polynomial : (M : Model) → Tested m M → Polynomial M.terms
   tested_polynomial M t = normal_polynomial M t.normal t.sized.coefficients
 
-  pub coefficients-fit : (ts : List Term) → All NormalTerm ts → all_fit ts ≡ true → All (λ t. Sized limit t.coefficient) ts
+  pub coefficients-fit : (ts : List Term) → AllByRecursion NormalTerm ts → all_fit ts ≡ true → AllByRecursion (λ t. Sized limit t.coefficient) ts
   coefficients-fit ts A t = all_fit_in ts (All-weaker NormalTerm Ordered (λ t h. h.order) ts A) t
 
   pub test_passed : (M R : Model) → Normal M → tested m M ≡ Ok R → (R ≡ M) × Tested m M
@@ -51,7 +51,7 @@ module _ (m : MethodMeaning) where
         },
       )
 
-  all_fit_out : (ts : List Term) → All (λ t. Sized limit t.coefficient) ts → all_fit ts ≡ true
+  all_fit_out : (ts : List Term) → AllByRecursion (λ t. Sized limit t.coefficient) ts → all_fit ts ≡ true
   all_fit_out [] A = refl
   all_fit_out (t ∷ ts) A = and_from (fits t.coefficient) (all_fit ts) (sized-fits A.0) (all_fit_out ts A.1)
 

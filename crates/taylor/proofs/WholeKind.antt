@@ -1,7 +1,7 @@
 -- In the whole kind the leftover of a point is [0, 0], so a product that cuts nothing keeps points. Assumes nothing.
 use Rattle.std.proofs.Common.{◌≡◌, ℕ, zero, suc, true, List, [], ◌∷◌, ℤ, pos, Ok, fold, sym, refl, ap, ◌∙◌, subst, arith}
 use lib.Ieee.{Float}
-use Rattle.std.specs.List.{AllByRecursion as All}
+use Rattle.std.specs.List.{AllByRecursion}
 use Rattle.std.proofs.lemmas.Int.{ints}
 use Rattle.std.proofs.lemmas.Bool.{and_parts}
 use Rattle.rational.specs.Fraction.{whole, ◌=ᶠ◌}
@@ -56,7 +56,7 @@ module _ (k : KindMeaning) (W : Whole k) where
           remainder = plus_zero P.remainder (ap (reach t.monomial) s.1 ∙ reach_zero t.monomial);
         }
 
-    gathered_pointed : (ts : List Term) (M : Model) → all_kept order ts ≡ true → All (λ t. Fits t.coefficient) ts → Points ts → Pointed M
+    gathered_pointed : (ts : List Term) (M : Model) → all_kept order ts ≡ true → AllByRecursion (λ t. Fits t.coefficient) ts → Points ts → Pointed M
         → Pointed (fold (gather k order) M ts)
     gathered_pointed [] M e F A P = P
     gathered_pointed (t ∷ ts) M e F A P =

@@ -1,6 +1,6 @@
 -- The whole kind works exactly: points stay points, and nothing is left over. Assumes nothing.
 use Rattle.std.specs.Prelude.{◌≡◌, ℕ, true, List, ℤ, Ok, Float}
-use Rattle.std.specs.List.{AllByRecursion as All}
+use Rattle.std.specs.List.{AllByRecursion}
 use Rattle.rational.specs.Fraction.{Fraction, whole, ◌=ᶠ◌}
 use Rattle.interval.specs.declared.marks.Interval.{Interval}
 use Rattle.interval.specs.declared.variable.Variable.{Variable}
@@ -26,7 +26,7 @@ Point i = i.lower ≡ i.upper
 
 -- every coefficient is one number, and nothing is left over
 pub record Pointed (M : Model) : Type 0 where
-  pub coefficients : All (λ t. Point t.coefficient) M.terms
+  pub coefficients : AllByRecursion (λ t. Point t.coefficient) M.terms
   pub remainder : M.remainder ≡ zero_interval
 
 -- both ends of the polynomial's value are x

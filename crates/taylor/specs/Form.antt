@@ -1,6 +1,6 @@
 -- The form that models keep: ascending terms, bounded degrees and bounded ends. Assumes nothing.
 use Rattle.std.specs.Prelude.{◌≡◌, ℕ, ◌≤◌, false, List, length, ◌≤ℤ◌}
-use Rattle.std.specs.List.{AllByRecursion as All}
+use Rattle.std.specs.List.{AllByRecursion}
 use Rattle.interval.specs.Interval.{limit, Sized, Fits, is_zero}
 use Rattle.table.specs.Monomial.{degree}
 use Rattle.table.specs.Order.{by_degree}
@@ -22,16 +22,16 @@ pub record NormalTerm (t : Term) : Type 0 where
 pub record Normal (M : Model) : Type 0 where
   pub few : length M.terms ≤ 40
   pub ascends : Ascending by_degree (λ t. t.monomial) M.terms
-  pub each : All NormalTerm M.terms
+  pub each : AllByRecursion NormalTerm M.terms
   pub order : M.remainder.lower ≤ℤ M.remainder.upper
 
 -- no degree is above d
 abbrev pub Degrees : ℕ → List Term → Type 0
-Degrees d ts = All (λ t. degree t.monomial ≤ d) ts
+Degrees d ts = AllByRecursion (λ t. degree t.monomial ≤ d) ts
 
 -- no end lies above n marks or below -n
 pub record SizedModel (n : ℕ) (M : Model) : Type 0 where
-  pub coefficients : All (λ t. Sized n t.coefficient) M.terms
+  pub coefficients : AllByRecursion (λ t. Sized n t.coefficient) M.terms
   pub remainder : Sized n M.remainder
 
 -- a normal model of degree at most d, with ends of at most n marks
@@ -64,7 +64,7 @@ pub record DraftTerm (d n : ℕ) (t : Term) : Type 0 where
 
 pub record Draft (d n : ℕ) (ts : List Term) : Type 0 where
   pub ascends : Ascending by_degree (λ t. t.monomial) ts
-  pub each : All (DraftTerm d n) ts
+  pub each : AllByRecursion (DraftTerm d n) ts
 
 -- pairs that are gathered into a model: a draft, and a remainder of at most r marks
 pub record Gathering (d n r : ℕ) (M : Model) : Type 0 where

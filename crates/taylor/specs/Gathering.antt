@@ -1,6 +1,6 @@
 -- The pairs of a product as they come, in one pass: the model so far, and what is told of the pairs. Assumes nothing.
 use Rattle.std.specs.Prelude.{◌≡◌, ℕ, ◌+◌, ◌-◌, ◌*◌, ◌^◌, ◌≤◌, Bool, true, cond, ◌&&◌, List, length, is_ok, Ok, fold, Result, nat_le}
-use Rattle.std.specs.List.{AllByRecursion as All}
+use Rattle.std.specs.List.{AllByRecursion}
 use Rattle.interval.specs.declared.marks.Interval.{Interval}
 use Rattle.interval.specs.declared.reason.Reason.{Reason}
 use Rattle.interval.specs.declared.reason.Reason.TheVariants.{TooManyMonomials, DoesNotFit}
@@ -96,7 +96,7 @@ pub record Factor (t : Term) : Type 0 where
 -- an operand's record: packed, of such terms
 pub record Factors (r : ModelRecord) : Type 0 where
   pub packs : InPlaces r
-  pub each : All Factor (unpacked r).terms
+  pub each : AllByRecursion Factor (unpacked r).terms
 
 -- what the pairs ts make of the record Y: a refusal at more than 40 monomials, else the tally with them
 pub record Took (k : KindMeaning) (order : ℕ) (Y : TallyRecord) (ts : List Term) (r : Result Unit Reason) (Z : TallyRecord) : Type 0 where

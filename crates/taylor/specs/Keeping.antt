@@ -1,6 +1,6 @@
 -- The form of every result: normal, of bounded degree, and far below what 64 bits hold. Assumes nothing.
 use Rattle.std.specs.Prelude.{◌≡◌, ℕ, ◌+◌, ◌*◌, ◌<◌, ◌≤◌, List, map, length, take, Ok}
-use Rattle.std.specs.List.{AllByRecursion as All}
+use Rattle.std.specs.List.{AllByRecursion}
 use Rattle.interval.specs.declared.marks.Interval.{Interval}
 use Rattle.interval.specs.declared.variable.Variable.{Variable}
 use Rattle.interval.specs.Interval.{limit, Bounded, Fits}
@@ -20,7 +20,7 @@ room = 17_592_186_044_416
 
 -- terms that join a table one by one
 abbrev pub JoinsKeep : Type 0
-JoinsKeep = (d a b : ℕ) (ts us : List Term) → Draft d a ts → All (DraftTerm d b) us → Draft d (a + length us * b) (joins ts us)
+JoinsKeep = (d a b : ℕ) (ts us : List Term) → Draft d a ts → AllByRecursion (DraftTerm d b) us → Draft d (a + length us * b) (joins ts us)
 
 -- how many pairs two polynomials make
 abbrev pub PairsCounted : Type 0
@@ -28,7 +28,7 @@ PairsCounted = (S : ℕ) (ps qs : List Term) → length (pairs S ps qs) ≡ leng
 
 -- so many pairs that fit: a coefficient has at most the limit for each of them, the remainder twice that
 abbrev pub GatheringKeeps : KindMeaning → ℕ → Type 0
-GatheringKeeps k order = (ps : List Term) → All (λ t. length t.monomial ≡ 6) ps → All (λ t. Fits t.coefficient) ps →
+GatheringKeeps k order = (ps : List Term) → AllByRecursion (λ t. length t.monomial ≡ 6) ps → AllByRecursion (λ t. Fits t.coefficient) ps →
     Gathering order (length ps * limit) (length ps * twice_limit) (gathered k order ps)
 
 -- the monomials that are gathered depend on those of the pairs alone

@@ -1,6 +1,6 @@
 // The pairs of a product as they come, gathered into a model in one pass.
 ghost use Rattle.std.specs.Prelude.{◌≡◌, ◌+◌, ◌*◌, ◌<◌, ◌≤◌, true, ◌&&◌, [], ◌∷◌, length, ◌≤ℤ◌, is_ok};
-ghost use Rattle.std.specs.List.{AllByRecursion as All};
+ghost use Rattle.std.specs.List.{AllByRecursion};
 ghost use Rattle.interval.specs.Interval.{Fits, fits};
 ghost use Rattle.taylor.specs.Model.{unpacked};
 ghost use Rattle.taylor.specs.Product.{pair as pair_of, row, pairs as all_pairs, keep, cut};
@@ -128,7 +128,7 @@ impl TallyRecord {
     ) -> Result<(), Reason>
         requires form { Tallies order self.old }
         requires few { self.old.pairs + length qs.now ≤ 1600 }
-        requires factors { (Factor p) × (All Factor qs.now) }
+        requires factors { (Factor p) × (AllByRecursion Factor qs.now) }
         ensures took { Took (K.meaning kind.now) order self.old (row (K.meaning kind.now).scale p qs.now) result self.new }
     {
         for q in qs {
@@ -147,7 +147,7 @@ impl TallyRecord {
     ) -> Result<(), Reason>
         requires form { Tallies order self.old }
         requires few { self.old.pairs + length ps.now * length qs.now ≤ 1600 }
-        requires factors { (All Factor ps.now) × (All Factor qs.now) }
+        requires factors { (AllByRecursion Factor ps.now) × (AllByRecursion Factor qs.now) }
         ensures took { Took (K.meaning kind.now) order self.old (all_pairs (K.meaning kind.now).scale ps.now qs.now) result self.new }
     {
         for p in ps {

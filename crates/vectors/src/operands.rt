@@ -1,6 +1,6 @@
 // What calls ask of their operands: intervals that fit, and polynomials.
 ghost use Rattle.std.specs.Prelude.{Decides};
-ghost use Rattle.std.specs.List.{AllByRecursion as All};
+ghost use Rattle.std.specs.List.{AllByRecursion};
 ghost use Rattle.interval.specs.Interval.{Fits};
 ghost use Rattle.polynomial.specs.Method.{FitTerm, Polynomial};
 ghost use Rattle.table.specs.Order.{by_degree};
@@ -37,7 +37,7 @@ fn ascend(terms: &[Term]) -> bool
 }
 
 fn all_fit(terms: &[Term]) -> bool
-    ensures value { Decides result (All FitTerm terms.now) }
+    ensures value { Decides result (AllByRecursion FitTerm terms.now) }
 {
     for term in terms {
         if !is_fit_term(term) {

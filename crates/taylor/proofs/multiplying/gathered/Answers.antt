@@ -1,5 +1,5 @@
 use Rattle.std.proofs.Common.{◌≡◌, sym, subst}
-use Rattle.std.specs.List.{AllByRecursion as All}
+use Rattle.std.specs.List.{AllByRecursion}
 use Rattle.std.proofs.lemmas.Result.{err_from_is_err_and}
 use Rattle.taylor.specs.Model.{unpacked}
 use Rattle.taylor.specs.Gathering.{Tallies, Factor}
@@ -21,7 +21,7 @@ take_pairs-requires g c =
     record {
       form = subst (Tallies c.args.order) (sym start) (tallies_none c.args.order);
       few = rw (start, first, second) (pairs-few c.requires.first c.requires.second);
-      factors = (subst (All Factor) (sym first) c.requires.first.each, subst (All Factor) (sym second) c.requires.second.each);
+      factors = (subst (AllByRecursion Factor) (sym first) c.requires.first.each, subst (AllByRecursion Factor) (sym second) c.requires.second.each);
     }
 
 pub returns-in_err-take_pairs : goal.returns-in_err-take_pairs
