@@ -10,3 +10,4 @@ pub mod Orders
 pub mod Passing
 pub mod GivenEnds
 pub mod Encloses
+pub mod Numbers

@@ -1,5 +1,5 @@
 -- The number and the words of each reason, and results that may be refused. Assumes nothing.
-use Rattle.std.specs.Prelude.{ℕ, Bool, true, false, List, Ok, Err, codes, Result}
+use Rattle.std.specs.Prelude.{◌≡◌, ◌==◌, ℕ, Bool, true, false, List, Ok, Err, codes, Result, Decides}
 use Rattle.interval.specs.declared.reason.Reason.{Reason}
 use Rattle.interval.specs.declared.reason.Reason.TheVariants.{OrderOutOfRange, VariablesOutOfRange, AllowanceOutOfRange, EndNotFinite, EndsCrossed, EndDoesNotFit}
 use Rattle.interval.specs.declared.reason.Reason.TheVariants.{OfficeOutOfRange, LinesFull, TooFewRecords, TextOutOfRange, AccountsFull}
@@ -41,6 +41,10 @@ number NoLineToStrike = 50
 number PostedByAnother = 51
 number NoLineToRead = 60
 number NoAccount = 61
+
+-- each reason has a number of its own, so that comparing numbers compares reasons
+abbrev pub NumbersTell : Type 0
+NumbersTell = (x y : Reason) → Decides (number x == number y) (x ≡ y)
 
 -- one clause of plain English
 abbrev pub words : Reason → List ℕ

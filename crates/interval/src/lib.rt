@@ -18,7 +18,9 @@ mod variable; // an input with its ends
 pub use comparing::compare;
 pub use kind::Kind;
 pub use kinds::{FixedKind, IntervalKind, WholeKind};
-pub use laws::{arithmetic_encloses, hulls_hold, reaches_enclose, splits_select};
+pub use laws::{
+    arithmetic_encloses, hulls_hold, numbers_tell_reasons, reaches_enclose, splits_select,
+};
 pub use marks::{Interval, LIMIT};
 pub use reason::Reason;
 pub use refusal::Refusal;

@@ -10,11 +10,11 @@ length-multiplied [] n e = refl
 length-multiplied (a ∷ m) [] e = omega arith
 length-multiplied (a ∷ m) (b ∷ n) e = ap suc (length-multiplied m n (omega arith))
 
-pub get_d_multiplied : (m n : Monomial) (k : ℕ) → length m ≡ length n → k < length m → get_or (multiplied m n) k 0 ≡ get_or m k 0 + get_or n k 0
-get_d_multiplied [] n k e h = absurd (omega arith)
-get_d_multiplied (a ∷ m) [] k e h = absurd (omega arith)
-get_d_multiplied (a ∷ m) (b ∷ n) zero e h = refl
-get_d_multiplied (a ∷ m) (b ∷ n) (suc k) e h = get_d_multiplied m n k (omega arith) (omega arith)
+pub get_or-multiplied : (m n : Monomial) (k : ℕ) → length m ≡ length n → k < length m → get_or (multiplied m n) k 0 ≡ get_or m k 0 + get_or n k 0
+get_or-multiplied [] n k e h = absurd (omega arith)
+get_or-multiplied (a ∷ m) [] k e h = absurd (omega arith)
+get_or-multiplied (a ∷ m) (b ∷ n) zero e h = refl
+get_or-multiplied (a ∷ m) (b ∷ n) (suc k) e h = get_or-multiplied m n k (omega arith) (omega arith)
 
 -- degrees add
 pub degree-product : (m n : Monomial) → length m ≡ length n → degree (multiplied m n) ≡ degree m + degree n
@@ -53,7 +53,7 @@ square-root (e ∷ m) t =
 pub is_multiplied : (m n s : Monomial) → length s ≡ length m → length m ≡ length n → ((k : ℕ) → k < length m → get_or s k 0 ≡ get_or m k 0 + get_or n k 0) → s ≡ multiplied m n
 is_multiplied m n s l e h =
     ext_get_or 0 s (multiplied m n) (l ∙ sym (length-multiplied m n e))
-    (λ k b. let low : k < length m = omega arith in h k low ∙ sym (get_d_multiplied m n k e low))
+    (λ k b. let low : k < length m = omega arith in h k low ∙ sym (get_or-multiplied m n k e low))
 
 -- what is half at every place is the root
 pub is_root : (m s : Monomial) → length s ≡ length m → ((k : ℕ) → k < length m → get_or s k 0 ≡ get_or m k 0 / 2) → s ≡ root m

@@ -7,6 +7,7 @@ use anyhow::anyhow;
 use batch::{Desk, Statement, read_statement, words_of};
 use report::{write_box, write_polynomial};
 use std::alloc::{AllocError, Global};
+use std::process::ExitCode;
 use std::{env, fs, io};
 
 // Lines after which progress is told.
@@ -94,6 +95,10 @@ fn run(rt: &HostRuntime) -> anyhow::Result<()> {
     }
 }
 
-fn main(rt: HostRuntime) -> anyhow::Result<()> {
-    run(&rt)
+// What went wrong is told by then, in one line.
+fn main(rt: HostRuntime) -> ExitCode {
+    match run(&rt) {
+        Ok(()) => ExitCode::SUCCESS,
+        Err(_) => ExitCode::FAILURE,
+    }
 }
