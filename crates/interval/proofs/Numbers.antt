@@ -9,7 +9,7 @@ use Rattle.interval.specs.declared.reason.Reason.TheVariants.{TooFewOperands, To
 use Rattle.interval.specs.declared.reason.Reason.TheVariants.{NoVariableToNarrow, NewEndsUnsound, EndOutside}
 use Rattle.interval.specs.declared.reason.Reason.TheVariants.{NoLineToStrike, PostedByAnother}
 use Rattle.interval.specs.declared.reason.Reason.TheVariants.{NoLineToRead, NoAccount}
-use Rattle.interval.specs.Reason.{number, NumbersTell}
+use Rattle.interval.specs.Reason.{number, NumbersDistinct}
 
 -- the reason of a number
 numbered : ℕ → Reason
@@ -78,7 +78,7 @@ numbered_number PostedByAnother = refl
 numbered_number NoLineToRead = refl
 numbered_number NoAccount = refl
 
-pub numbers_tell : NumbersTell
-numbers_tell x y =
+pub distinct : NumbersDistinct
+distinct x y =
     let d = Decides-eqb (number x) (number y) in
     (λ e. sym (numbered_number x) ∙ ap numbered (d.0 e) ∙ numbered_number y, λ e. d.1 (ap number e))

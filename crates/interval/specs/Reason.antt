@@ -43,8 +43,8 @@ number NoLineToRead = 60
 number NoAccount = 61
 
 -- each reason has a number of its own, so that comparing numbers compares reasons
-abbrev pub NumbersTell : Type 0
-NumbersTell = (x y : Reason) → Decides (number x == number y) (x ≡ y)
+abbrev pub NumbersDistinct : Type 0
+NumbersDistinct = (x y : Reason) → Decides (number x == number y) (x ≡ y)
 
 -- one clause of plain English
 abbrev pub words : Reason → List ℕ

@@ -2,11 +2,11 @@
 ghost use Rattle.interval.specs.Enclosure.{HullHolds, HullNearest, OrderExact, HullMonotone};
 ghost use Rattle.interval.specs.Enclosure.{SumEncloses, DifferenceEncloses, NegationEncloses, ProductEncloses, MeetEncloses};
 ghost use Rattle.interval.specs.Enclosure.{EvenReachEncloses, FullReachEncloses, SplitSelects};
-ghost use Rattle.interval.specs.Reason.{NumbersTell};
+ghost use Rattle.interval.specs.Reason.{NumbersDistinct};
 
 // Two reasons with one number are one reason.
-pub fn numbers_tell_reasons()
-    ensures laws { NumbersTell }
+pub fn numbers_are_distinct()
+    ensures laws { NumbersDistinct }
 {}
 
 // A hull has the floor and the ceiling of the value in marks, and hulls keep the order of binary64, which is that of the exact values.

@@ -19,7 +19,7 @@ pub use comparing::compare;
 pub use kind::Kind;
 pub use kinds::{FixedKind, IntervalKind, WholeKind};
 pub use laws::{
-    arithmetic_encloses, hulls_hold, numbers_tell_reasons, reaches_enclose, splits_select,
+    arithmetic_encloses, hulls_hold, numbers_are_distinct, reaches_enclose, splits_select,
 };
 pub use marks::{Interval, LIMIT};
 pub use reason::Reason;

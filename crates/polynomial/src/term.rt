@@ -24,7 +24,7 @@ pub const ZERO_TERM: Term = Term {
     coefficient: Interval { lower: 0, upper: 0 },
 };
 
-// Written out, since a derived `==` says nothing of an array.
+// Written out, to promise that only a term itself equals it.
 impl PartialEq for Term {
     ghost eq = { eq_of_both (on (λ t. t.monomial) (pointwise nat_eq)) (on (λ t. t.coefficient) (eq_of_both (on (λ i. i.lower) int_eq) (on (λ i. i.upper) int_eq))) };
 

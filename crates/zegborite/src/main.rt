@@ -95,7 +95,7 @@ fn run(rt: &HostRuntime) -> anyhow::Result<()> {
     }
 }
 
-// What went wrong is told by then, in one line.
+// A batch that cannot be read or worked has been told of in one line, so the error is not told again.
 fn main(rt: HostRuntime) -> ExitCode {
     match run(&rt) {
         Ok(()) => ExitCode::SUCCESS,

@@ -4,9 +4,9 @@ use Rattle.batch.specs.Statements.{said_from, range_said}
 use Rattle.batch.proofs.Shapes.{at, after, said_none, said-some, said_at, said_unknown}
 use Rattle.batch.proofs.statement.read_statement.Goals as goal
 
--- what a form says, said of the words after the first
-by_way_of : {A : Type 0} (x y z : A) → x ≡ y → y ≡ z → x ≡ z
-by_way_of x y z p q = p ∙ q
+-- equality is transitive; the middle is written out, so that a search can show the first part
+trans : {A : Type 0} (x y z : A) → x ≡ y → y ≡ z → x ≡ z
+trans x y z p q = p ∙ q
 
 pub returns-in_default : goal.returns-in_default
 returns-in_default c = record { value = sym (said_none c.args.words.now (search rules)) }
@@ -45,7 +45,7 @@ pub returns-in-range : goal.returns-in-range
 unfolding said_from
 returns-in-range c =
     let ws = c.args.words.now in
-    record { value = by_way_of _ (range_said (after ws)) _ (search rules) (said_at (at ws 0) (codes "range") (after ws) c.in-range.is ∙ sym (said-some ws (search rules))) }
+    record { value = trans _ (range_said (after ws)) _ (search rules) (said_at (at ws 0) (codes "range") (after ws) c.in-range.is ∙ sym (said-some ws (search rules))) }
 
 pub returns-in_default-text : goal.returns-in_default-text
 returns-in_default-text c =
