@@ -1,6 +1,7 @@
 -- Each reason can be found again from its number. Assumes nothing.
-use Rattle.std.proofs.Common.{◌≡◌, ◌==◌, ℕ, cond, refl, sym, ap, ◌∙◌}
-use Rattle.std.proofs.lemmas.Bool.Decides.{Decides-eqb}
+use Rattle.std.proofs.Common.{◌≡◌, ◌==◌, ℕ, cond, Decides, refl, sym, ap, ◌∙◌}
+use Rattle.std.proofs.lemmas.Bool.Decides.{Decides-eqb, same_from_decides}
+use denote.Enum.Bare.{sameb, same_true, true_same}
 use Rattle.interval.specs.declared.reason.Reason.{Reason}
 use Rattle.interval.specs.declared.reason.Reason.TheVariants.{OrderOutOfRange, VariablesOutOfRange, AllowanceOutOfRange, EndNotFinite, EndsCrossed, EndDoesNotFit}
 use Rattle.interval.specs.declared.reason.Reason.TheVariants.{OfficeOutOfRange, LinesFull, TooFewRecords, TextOutOfRange, AccountsFull}
@@ -9,7 +10,8 @@ use Rattle.interval.specs.declared.reason.Reason.TheVariants.{TooFewOperands, To
 use Rattle.interval.specs.declared.reason.Reason.TheVariants.{NoVariableToNarrow, NewEndsUnsound, EndOutside}
 use Rattle.interval.specs.declared.reason.Reason.TheVariants.{NoLineToStrike, PostedByAnother}
 use Rattle.interval.specs.declared.reason.Reason.TheVariants.{NoLineToRead, NoAccount}
-use Rattle.interval.specs.Reason.{number, NumbersDistinct}
+use Rattle.interval.specs.contracts.reason.Reason.{the_type}
+use Rattle.interval.specs.Reason.{number, NumbersDistinct, EqualByNumber}
 
 -- the reason of a number
 numbered : ℕ → Reason
@@ -82,3 +84,10 @@ pub distinct : NumbersDistinct
 distinct x y =
     let d = Decides-eqb (number x) (number y) in
     (λ e. sym (numbered_number x) ∙ ap numbered (d.0 e) ∙ numbered_number y, λ e. d.1 (ap number e))
+
+-- the derived equality compares tags, and a reason has one
+same : (x y : Reason) → Decides (sameb the_type x y) (x ≡ y)
+same x y = (same_true the_type tt x y, true_same the_type x y)
+
+pub equal_by_number : EqualByNumber (sameb the_type)
+equal_by_number x y = (same_from_decides _ _ (same x y) (distinct x y), same x y)

@@ -1,9 +1,10 @@
 -- The order of finite binary64 values is the order of their exact values, and hulls keep it. Assumes nothing.
-use Rattle.std.proofs.Common.{◌≡◌, ℕ, zero, suc, ◌*◌, Bool, true, false, cond, not, ◌||◌, ℤ, pos, ◌*ℤ◌, ◌≤ℤ◌, Some, Less, Equal, Greater, sym, refl, ◌∙◌, ap₂, true≢false, arith}
+use Rattle.std.proofs.Common.{◌≡◌, ℕ, zero, suc, ◌*◌, Bool, true, false, cond, not, ◌||◌, ℤ, pos, ◌*ℤ◌, ◌≤ℤ◌, Some, None, Less, Equal, Greater, sym, refl, ◌∙◌, ap₂, true≢false, arith}
 use lib.Signed.{lt_z, ≤ℤ_refl}
-use lib.Ieee.{Float, nan, inf, fin, up, down, below, level, lt, le}
+use lib.Ieee.{Float, nan, inf, fin, up, down, below, level, lt, le, eq}
 use borrow.Author.Differences.{ints}
 use Rattle.std.specs.Float.{float_is_finite}
+use Rattle.std.specs.Ordering.{float_partial_cmp}
 use Rattle.std.proofs.lemmas.Bool.Decides.{nat_tests}
 use Rattle.rational.specs.Fraction.{Fraction, whole, ◌*ᶠ◌, ◌≤ᶠ◌}
 use Rattle.rational.proofs.Laws.{product_monotone}
@@ -58,9 +59,18 @@ value_le x y p q h = let e = sym (lt_is y x q p) ∙ h in grind (arith, ints)
 pub le_value : (x y : Float) → float_is_finite x ≡ true → float_is_finite y ≡ true → value x ≤ᶠ value y → lt y x ≡ false
 le_value x y p q h = lt_is y x q p ∙ grind (arith, ints)
 
--- from the answers of both tests
-pub compares : (x y : Float) {a b : Bool} → float_is_finite x ≡ true → float_is_finite y ≡ true → lt x y ≡ a → lt y x ≡ b → Some (cond a Less (cond b Greater Equal)) ≡ compared x y
-compares x y p q e f = rw (p, q, ← lt_is x y p q, ← lt_is y x q p, e, f)
+-- of two numbers the first is below, equal or above, so that one of the three answers comes
+one_of_three : (l e g : Bool) → (l || e) ≡ not g → cond l (Some Less) (cond e (Some Equal) (cond g (Some Greater) None)) ≡ Some (cond l Less (cond g Greater Equal))
+one_of_three true e g h = refl
+one_of_three false true false h = refl
+one_of_three false false true h = refl
+one_of_three false true true h = absurd (true≢false h)
+one_of_three false false false h = absurd (true≢false (sym h))
+
+-- finite values compare as their exact values
+pub compares : (x y : Float) → float_is_finite x ≡ true → float_is_finite y ≡ true → float_partial_cmp x y ≡ compared x y
+unfolding le
+compares x y p q = one_of_three (lt x y) (eq x y) (lt y x) (le_flips x y p q) ∙ rw (p, q, ← lt_is x y p q, ← lt_is y x q p)
 
 -- ---- hulls
 pub scaled_le : (S : ℕ) (x y : Float) → value x ≤ᶠ value y → (value x *ᶠ whole (pos S)) ≤ᶠ (value y *ᶠ whole (pos S))

@@ -46,6 +46,10 @@ number NoAccount = 61
 abbrev pub NumbersDistinct : Type 0
 NumbersDistinct = (x y : Reason) → Decides (number x == number y) (x ≡ y)
 
+-- an equality of reasons tells that their numbers are equal, and so that they are one reason
+abbrev pub EqualByNumber : (Reason → Reason → Bool) → Type 0
+EqualByNumber eq = (x y : Reason) → (eq x y ≡ (number x == number y)) × Decides (eq x y) (x ≡ y)
+
 -- one clause of plain English
 abbrev pub words : Reason → List ℕ
 words OrderOutOfRange = codes "the order is not from 1 to 8"

@@ -11,11 +11,5 @@ pub fn compare(a: f64, b: f64) -> Option<Ordering>
     if !a.is_finite() || !b.is_finite() {
         return None;
     }
-    if a < b {
-        return Some(Ordering::Less);
-    }
-    if b < a {
-        return Some(Ordering::Greater);
-    }
-    Some(Ordering::Equal)
+    a.partial_cmp(&b)
 }

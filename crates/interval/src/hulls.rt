@@ -11,7 +11,7 @@ use std::num::saturating_f64_to_i64;
 fn fitted(i: Interval) -> Option<Interval>
     ensures value { result ≡ (if fits i then Some i else None) }
 {
-    if i.fits() { Some(i) } else { None }
+    i.fits().then_some(i)
 }
 
 impl Interval {

@@ -2,11 +2,14 @@
 ghost use Rattle.interval.specs.Enclosure.{HullHolds, HullNearest, OrderExact, HullMonotone};
 ghost use Rattle.interval.specs.Enclosure.{SumEncloses, DifferenceEncloses, NegationEncloses, ProductEncloses, MeetEncloses};
 ghost use Rattle.interval.specs.Enclosure.{EvenReachEncloses, FullReachEncloses, SplitSelects};
-ghost use Rattle.interval.specs.Reason.{NumbersDistinct};
+ghost use Rattle.interval.specs.Reason.{NumbersDistinct, EqualByNumber};
 
-// Two reasons with one number are one reason.
+use crate::reason::Reason;
+
+// Two reasons with one number are one reason, and `==` tells just that.
 pub fn numbers_are_distinct()
     ensures laws { NumbersDistinct }
+    ensures equality { EqualByNumber ⟦<Reason as PartialEq>⟧.eq }
 {}
 
 // A hull has the floor and the ceiling of the value in marks, and hulls keep the order of binary64, which is that of the exact values.

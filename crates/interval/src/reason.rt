@@ -1,13 +1,10 @@
 // Why something is refused, each reason with its number.
-ghost use Rattle.std.specs.Prelude.{◌≡◌, ◌==◌, Some, Decides};
+ghost use Rattle.std.specs.Prelude.{◌≡◌, Some};
 ghost use Rattle.interval.specs.Reason.{number, words};
-ghost use Rattle.std.specs.Cmp.Rules.{comparing};
-ghost use Rattle.std.proofs.Common.{rules};
-ghost use Rattle.std.specs.Cmp as Keys;
 
 use std::fmt;
 
-#[derive(Clone, Copy, Debug)]
+#[derive(Clone, Copy, Debug, PartialEq, Eq)]
 pub enum Reason {
     // ---- opening
     // the order is 0 or above 8
@@ -122,24 +119,6 @@ impl Reason {
             Reason::NoAccount => "the office has no account",
         }
     }
-}
-
-// Two reasons are equal where their numbers are.
-impl PartialEq for Reason {
-    ghost eq = { λ x y. number x == number y };
-
-    ghost laws = { Keys.partial_equiv_from_equiv (Prim.search (comparing, rules)) };
-
-    fn eq(&self, other: &Reason) -> bool
-        ensures value { result ≡ (number self.now == number other.now) }
-        ensures decides { Decides result (self.now ≡ other.now) }
-    {
-        self.number() == other.number()
-    }
-}
-
-impl Eq for Reason {
-    ghost laws = { Prim.search (comparing, rules) };
 }
 
 // The words.

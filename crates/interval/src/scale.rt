@@ -14,12 +14,15 @@ impl Scale {
     pub fn new(marks: u32) -> Option<Scale>
         ensures value { MatchOption result (IsScale marks → ⊥) (λ s. 2 ^ s.bits ≡ marks) }
     {
-        for bits in 0..17 {
-            if marks == 1 << bits {
-                return Some(Scale { bits });
-            }
+        if marks == 0 || marks > 65_536 {
+            return None;
         }
-        None
+        let bits = marks.ilog2();
+        if marks == 1 << bits {
+            Some(Scale { bits })
+        } else {
+            None
+        }
     }
 
     // One mark is one unit.

@@ -92,13 +92,10 @@ fn hulls_hold_the_value(rt: HostRuntime) {
 
 // Centre and half width, or the number of the refusal.
 fn variable(marks: u32, lower: f64, upper: f64) -> Result<(i64, i64), u8> {
-    let Some(scale) = Scale::new(marks) else {
-        return Err(0);
-    };
-    match Variable::new(lower, upper, scale) {
-        Ok(v) => Ok((v.centre, v.half)),
-        Err(reason) => Err(reason.number()),
-    }
+    let scale = Scale::new(marks).ok_or(0)?;
+    Variable::new(lower, upper, scale)
+        .map(|v| (v.centre, v.half))
+        .map_err(Reason::number)
 }
 
 #[test]

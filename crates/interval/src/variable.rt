@@ -42,12 +42,8 @@ impl Variable {
         if lower > upper {
             return Err(Reason::EndsCrossed);
         }
-        let Some(a) = Interval::hull(lower, scale) else {
-            return Err(Reason::EndDoesNotFit);
-        };
-        let Some(b) = Interval::hull(upper, scale) else {
-            return Err(Reason::EndDoesNotFit);
-        };
+        let a = Interval::hull(lower, scale).ok_or(Reason::EndDoesNotFit)?;
+        let b = Interval::hull(upper, scale).ok_or(Reason::EndDoesNotFit)?;
         let ends = Interval {
             lower: a.lower,
             upper: b.upper,
