@@ -58,9 +58,6 @@ sized-fits {i} s = grind (arith, ints)
 pub sized-plus : {m n : ℕ} {i j : Interval} → Sized m i → Sized n j → Sized (m + n) (plus i j)
 sized-plus s t = record { low = omega (arith, ints); order = omega (arith, ints); high = omega (arith, ints) }
 
-pub sized-minus : {m n : ℕ} {i j : Interval} → Sized m i → Sized n j → Sized (m + n) (minus i j)
-sized-minus s t = record { low = omega (arith, ints); order = omega (arith, ints); high = omega (arith, ints) }
-
 pub sized-negated : {n : ℕ} {i : Interval} → Sized n i → Sized n (negated i)
 sized-negated s = record { low = omega (arith, ints); order = omega (arith, ints); high = omega (arith, ints) }
 
@@ -72,16 +69,3 @@ sized-full s = record { low = omega (arith, ints, clamps); order = omega (arith,
 
 least_le_greatest : (a b c d : ℤ) → int_min (int_min a b) (int_min c d) ≤ℤ int_max (int_max a b) (int_max c d)
 least_le_greatest a b c d = omega (arith, ints, clamps)
-
-pub sized-times : {m n : ℕ} (S : ℕ) → 0 < S → {i j : Interval} → Sized m i → Sized n j → Sized (m * n) (times S i j)
-unfolding times
-sized-times {m} {n} S above {i} {j} s t =
-    let ll = bounded_product (lower_bounded s) (lower_bounded t) in
-    let lu = bounded_product (lower_bounded s) (upper_bounded t) in
-    let ul = bounded_product (upper_bounded s) (lower_bounded t) in
-    let uu = bounded_product (upper_bounded s) (upper_bounded t) in
-    record {
-      low = (bounded_floor (least i j) S (bounded_min (bounded_min ll lu) (bounded_min ul uu))).low;
-      order = floor_le_ceil (least i j) (greatest i j) S above (least_le_greatest (i.lower *ℤ j.lower) (i.lower *ℤ j.upper) (i.upper *ℤ j.lower) (i.upper *ℤ j.upper));
-      high = (bounded_ceil (greatest i j) S (bounded_max (bounded_max ll lu) (bounded_max ul uu))).high;
-    }

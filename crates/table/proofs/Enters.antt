@@ -1,22 +1,25 @@
 -- What an entry leaves in a slice: the table with it at the front, the rest as it was. Assumes nothing.
-use Rattle.std.proofs.Common.{◌≡◌, ℕ, ◌+◌, ◌<◌, ◌≤◌, true, false, leb, List, ◌++◌, length, get_or, take, drop, set, sym, refl, ap, ◌∙◌, subst, arith}
+use Rattle.std.proofs.Common.{◌≡◌, ℕ, ◌+◌, ◌<◌, ◌≤◌, Bool, true, false, cond, leb, Ok, Err, Result, List, ◌++◌, length, get_or, take, drop, set, sym, refl, ap, ◌∙◌, subst, arith}
 use Rattle.std.proofs.lemmas.List.Edits.{length-insert}
-use Rattle.std.proofs.ByRecursion.{All-get_or}
 use Rattle.std.proofs.lemmas.List.{get_or-take, get_or_read, length-set, length-take-le, set-append_left, take-append-drop}
 use Rattle.std.proofs.lemmas.Bool.{le-leb, lt-leb}
-use Rattle.std.specs.List.{insert, AllByRecursion}
+use Rattle.std.specs.List.{insert}
 use Rattle.table.specs.Order.{Order}
-use Rattle.table.specs.Table.{place, has_key, entered}
+use Rattle.table.specs.Table.{place, has_key, sought, entered}
 use Rattle.table.specs.Slice.{over}
 use Rattle.table.proofs.Places.{entered-placed}
+
+-- a place that is answered is the key's, and the answer says whether the key stands there
+answered : (b : Bool) (p i : ℕ) → ◌≡◌ {A = Result ℕ ℕ} (Ok i) (cond b (Ok p) (Err p)) → (i ≡ p) × (b ≡ true)
+answered true p i e = (cc, refl)
+answered false p i e = absurd (cc)
+
+pub there : {E K : Type 0} (o : Order K) (key : E → K) (es : List E) (k : K) (i : ℕ) → Ok i ≡ sought o key es k → (i ≡ place o key es k) × (has_key o key es k ≡ true)
+there o key es k i e = answered (has_key o key es k) (place o key es k) i e
 
 module _ {E : Type 0} (slice : List E) (n i : ℕ) (x : E) (room : n ≤ length slice) (low : i < n) (is : x ≡ get_or slice i x) where
   read : (d : E) → get_or (take n slice) i d ≡ x
   read d = get_or-take n slice i d low ∙ sym (get_or_read slice i x (omega arith) is d)
-
-  -- what holds of all entries in use holds of the one at place i
-  pub all_in_use : (P : E → Type 0) → AllByRecursion P (take n slice) → P x
-  all_in_use P h = let short : i < length (take n slice) = rw length-take-le (low) in subst P (read x) (All-get_or P (take n slice) i x short h)
 
   module _ {K : Type 0} (o : Order K) (key : E → K) (join : E → E → E) (e : E) (is-place : i ≡ place o key (take n slice) (key e)) (found : has_key o key (take n slice) (key e) ≡ true) where
     joined-there : entered o key join (take n slice) e ≡ set (take n slice) i (join x e)
@@ -30,6 +33,24 @@ module _ {E : Type 0} (slice : List E) (n i : ℕ) (x : E) (room : n ≤ length 
         let split : set slice i (join x e) ≡ set (take n slice) i (join x e) ++ drop n slice =
         ap (λ xs. set xs i (join x e)) (sym (take-append-drop n slice)) ∙ set-append_left (take n slice) (drop n slice) i (join x e) short in
         (ap (set slice i) q ∙ split ∙ rw (joined-there, long) refl, ap length joined-there ∙ long)
+
+-- the entry that lies where its key was found
+module _ {E K : Type 0} (o : Order K) (key : E → K) (join : E → E → E) (slice : List E) (n i : ℕ) (x e y : E) (k : K) (room : n ≤ length slice) (low : i < n)
+    (same : k ≡ key e) (found : ◌≡◌ {A = Result ℕ ℕ} (Ok i) (sought o key (take n slice) k)) (is : x ≡ get_or slice i x) (joined : y ≡ join (get_or slice i x) e) where
+  at_key : (i ≡ place o key (take n slice) (key e)) × (has_key o key (take n slice) (key e) ≡ true)
+  at_key = subst (λ z. (i ≡ place o key (take n slice) z) × (has_key o key (take n slice) z ≡ true)) same (there o key (take n slice) k i found)
+
+  joins : (set slice i y ≡ over (entered o key join (take n slice) e) slice) × (length (entered o key join (take n slice) e) ≡ n)
+  joins = joins-there slice n i x room low is o key join e at_key.0 at_key.1 y (joined ∙ ap (λ z. join z e) (sym is))
+
+  pub joined_after : set slice i y ≡ over (entered o key join (take n slice) e) slice
+  joined_after = joins.0
+
+  pub joined_count : n ≡ length (entered o key join (take n slice) e)
+  joined_count = sym joins.1
+
+  pub joined_room : true ≡ leb (length (entered o key join (take n slice) e)) (length slice)
+  joined_room = sym (le-leb (length (entered o key join (take n slice) e)) (length slice) (omega (arith, joins.1)))
 
 -- an entry whose key does not stand is put at its place
 module _ {E K : Type 0} (o : Order K) (key : E → K) (join : E → E → E) (slice : List E) (n i : ℕ) (e : E) (room : n ≤ length slice) (low : i ≤ n) (is-place : i ≡ place o key (take n slice) (key e)) (missing : has_key o key (take n slice) (key e) ≡ false) where

@@ -1,8 +1,8 @@
 -- Monomials place by place: products add exponents and degrees. Assumes nothing.
-use Rattle.std.proofs.Common.{◌≡◌, ℕ, zero, suc, ◌+◌, ◌/◌, ◌%◌, ◌<◌, ◌≤◌, true, false, ◌&&◌, eqb, [], ◌∷◌, length, get_or, drop, sym, refl, ap, ◌∙◌, ap₂, arith}
-use Rattle.std.proofs.lemmas.List.{ext_get_or, length-map, get_or-map, at_drop_more, at_drop_all}
+use Rattle.std.proofs.Common.{◌≡◌, ℕ, zero, suc, ◌+◌, ◌%◌, ◌<◌, true, eqb, [], ◌∷◌, length, get_or, sym, refl, ap, ◌∙◌, ap₂, arith}
+use Rattle.std.proofs.lemmas.List.{ext_get_or}
 use Rattle.std.proofs.lemmas.List.Sums.{sum_by-cons}
-use Rattle.std.proofs.lemmas.Bool.{eqb-true, eq-eqb, ne_eqb, and_parts, and_from}
+use Rattle.std.proofs.lemmas.Bool.{eqb-true, eq-eqb, and_parts, and_from}
 use Rattle.table.specs.Monomial.{Monomial, degree, even, multiplied, root}
 
 pub length-multiplied : (m n : Monomial) → length m ≡ length n → length (multiplied m n) ≡ length m
@@ -54,29 +54,3 @@ pub is_multiplied : (m n s : Monomial) → length s ≡ length m → length m �
 is_multiplied m n s l e h =
     ext_get_or 0 s (multiplied m n) (l ∙ sym (length-multiplied m n e))
     (λ k b. let low : k < length m = omega arith in h k low ∙ sym (get_or-multiplied m n k e low))
-
--- what is half at every place is the root
-pub is_root : (m s : Monomial) → length s ≡ length m → ((k : ℕ) → k < length m → get_or s k 0 ≡ get_or m k 0 / 2) → s ≡ root m
-is_root m s l h =
-    ext_get_or 0 s (root m) (l ∙ sym (length-map m (λ e. e / 2)))
-    (λ k b. let low : k < length m = omega arith in h k low ∙ sym (get_or-map (λ e. e / 2) m k 0 0 low))
-
--- ---- the exponents from place i on tell whether all are even
-pub record EvensAhead (m : Monomial) (i : ℕ) : Type 0 where
-  pub same : even m ≡ even (drop i m)
-  pub odd : i < length m → (get_or m i 0 % 2 ≡ 0 → ⊥) → even m ≡ false
-  pub past : length m ≤ i → even m ≡ true
-
-evens_ahead : (m : Monomial) (i : ℕ) → even m ≡ even (drop i m) → EvensAhead m i
-evens_ahead m i e = record {
-  same = e;
-  odd = λ h o. e ∙ at_drop_more even m i 0 h ∙ ap (λ b. b && even (drop (i + 1) m)) (ne_eqb (get_or m i 0 % 2) 0 o);
-  past = λ h. e ∙ at_drop_all even m i h;
-}
-
-pub evens_none : (m : Monomial) → EvensAhead m 0
-evens_none m = evens_ahead m 0 refl
-
-pub evens_more : (m : Monomial) (i : ℕ) → i < length m → get_or m i 0 % 2 ≡ 0 → EvensAhead m i → EvensAhead m (i + 1)
-evens_more m i h two a =
-    evens_ahead m (i + 1) (a.same ∙ at_drop_more even m i 0 h ∙ ap (λ b. b && even (drop (i + 1) m)) (eq-eqb (get_or m i 0 % 2) 0 two))

@@ -1,6 +1,6 @@
 -- A packed slice stays packed as an entry comes or entries go. Assumes nothing.
 use Rattle.std.proofs.Common.{◌≡◌, ℕ, ◌-◌, ◌≤◌, Bool, List, ◌++◌, length, take, drop, replicate, filter, sym, refl, ap, ◌∙◌, arith}
-use Rattle.std.proofs.lemmas.List.{append_assoc, replicate-append-replicate, length-append, length-replicate, length-take-le, take_at, drop_at, drop-drop, drop-replicate}
+use Rattle.std.proofs.lemmas.List.{append_assoc, replicate-append-replicate, length-append, length-replicate, take_at, drop_at, drop-drop, drop-replicate}
 use Rattle.std.proofs.lemmas.List.Sums.{length-filter, count_by-le-length}
 use Rattle.table.specs.Order.{Order}
 use Rattle.table.specs.Table.{entered}
@@ -29,14 +29,6 @@ module _ {E : Type 0} (n : ℕ) (blank : E) where
       ∙ drop-replicate (length us - length ts) (n - length ts) blank
       ∙ ap (λ m. replicate m blank) (omega arith) in
       ap (λ xs. us ++ xs) past
-
-  -- n places of xs, of which the kept ones came to the front of ys and the rest was blanked in zs
-  pub swept : (xs ys zs kept : List E) (used : ℕ) → used ≤ n → n ≤ length ys → take used ys ≡ kept → drop n ys ≡ drop n xs → zs ≡ over (packed n blank (take used ys)) ys
-      → (zs ≡ over (packed n blank kept) xs) × (used ≡ length kept)
-  swept xs ys zs kept used low room front rest is =
-      let size : used ≡ length kept = sym (length-take-le used ys (omega arith)) ∙ ap length front in
-      let long = length-packed n blank kept (omega arith) in
-      (is ∙ rw (front, long, rest) refl, size)
 
   module _ (slice : List E) (count : ℕ) (ts : List E) (p : Packs n blank slice count ts) where
     pub packs_long : length slice ≡ n

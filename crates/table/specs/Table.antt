@@ -1,5 +1,5 @@
 -- Ascending tables: one entry a key. Assumes nothing.
-use Rattle.std.specs.Prelude.{◌≡◌, ℕ, Bool, false, List, [], ◌∷◌, drop}
+use Rattle.std.specs.Prelude.{◌≡◌, ℕ, Bool, false, cond, List, [], ◌∷◌, drop, Ok, Err, Result}
 use Rattle.std.specs.declared.cmp.Ordering.TheVariants.{Less, Equal, Greater}
 use Rattle.std.specs.declared.cmp.Ordering.{Ordering}
 use Rattle.std.specs.Ordering.{is_lt, is_eq}
@@ -25,6 +25,10 @@ module _ {E K : Type 0} (o : Order K) (key : E → K) where
   -- an entry lies under the key k
   abbrev pub has_key : List E → K → Bool
   has_key es k = first_is k (drop (place es k) es)
+
+  -- the place of the key k: where it stands, or where it would come
+  abbrev pub sought : List E → K → Result ℕ ℕ
+  sought es k = cond (has_key es k) (Ok (place es k)) (Err (place es k))
 
   -- the entry under k, or d
   abbrev pub entry : E → List E → K → E

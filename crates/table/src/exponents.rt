@@ -9,22 +9,16 @@ pub fn degree(monomial: Monomial) -> u32
     ensures value { result ≡ degree monomial }
     ensures bound { result ≤ 1530 }
 {
-    let mut sum: u32 = 0;
-    for exponent in &monomial {
-        sum += *exponent as u32;
-    }
-    sum
+    monomial
+        .iter()
+        .map(|exponent| u32::from(*exponent))
+        .sum::<u32>()
 }
 
 pub fn all_even(monomial: Monomial) -> bool
     ensures value { result ≡ even monomial }
 {
-    for exponent in &monomial {
-        if *exponent % 2 != 0 {
-            return false;
-        }
-    }
-    true
+    monomial.iter().all(|exponent| *exponent % 2 == 0)
 }
 
 // Adds the exponents place by place.
@@ -32,9 +26,9 @@ pub fn product(a: Monomial, b: Monomial) -> Monomial
     requires { degree a + degree b ≤ 255 }
     ensures value { result ≡ multiplied a b }
 {
-    let mut sums = [0; 6];
-    for i in 0..6 {
-        sums[i] = a[i] + b[i];
+    let mut sums = a;
+    for (i, exponent) in b.iter().enumerate() {
+        sums[i] += *exponent;
     }
     sums
 }
@@ -43,9 +37,5 @@ pub fn product(a: Monomial, b: Monomial) -> Monomial
 pub fn square_root(monomial: Monomial) -> Monomial
     ensures value { result ≡ root monomial }
 {
-    let mut halves = monomial;
-    for i in 0..6 {
-        halves[i] /= 2;
-    }
-    halves
+    monomial.map(|exponent| exponent / 2)
 }

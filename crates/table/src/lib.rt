@@ -5,13 +5,13 @@ mod entries; // the one table over a lent slice
 mod exponents; // monomials by value
 mod laws; // the laws, carried by functions
 mod lookup; // entries under keys, and the one search
-mod moves; // moves within a slice
+mod moves; // how entries are found, come and go
 mod order; // keys with a total order
 
 pub use entries::{Full, Table};
 pub use exponents::{Monomial, all_even, degree, product, square_root};
 pub use laws::{dropping_holds, entering_holds, monomials_hold, orders_hold, searches_hold};
-pub use lookup::{Entry, Found, search};
+pub use lookup::{Entry, search};
 pub use order::TotalOrder;
 
 #[cfg(test)]

@@ -1,6 +1,6 @@
 // What lies in a table under a key, and the one search.
-ghost use Rattle.std.specs.Prelude.{◌≡◌, ◌<◌, ◌≤◌, Bool, true, length};
-ghost use Rattle.table.specs.Table.{place, has_key};
+ghost use Rattle.std.specs.Prelude.{◌≡◌, ◌<◌, ◌≤◌, Bool, length, IfOk, IfErr};
+ghost use Rattle.table.specs.Table.{sought};
 
 use crate::order::TotalOrder;
 use std::cmp::Ordering;
@@ -34,35 +34,18 @@ pub trait Entry: Copy {
     ghost keeps: { (a b : Self) → keyed (joined a b) ≡ keyed a };
 }
 
-// The place of the first key that is not below the one sought, and whether it is the one sought.
-#[derive(Clone, Copy)]
-pub struct Found {
-    pub place: usize,
-    pub found: bool,
-}
-
-// Looks from the front, with one comparison a key.
-pub fn search<E: Entry>(entries: &[E], key: E::Key) -> Found
-    ensures place { result.place ≡ place E.Key.TotalOrder.order E.keyed entries.now key }
-    ensures found { result.found ≡ has_key E.Key.TotalOrder.order E.keyed entries.now key }
-    ensures bound { result.place ≤ length entries.now }
-    ensures within { result.found ≡ true → result.place < length entries.now }
+// Looks from the front, with one comparison a key: Ok has the place where the key stands, Err the one where it would come.
+pub fn search<E: Entry>(entries: &[E], key: E::Key) -> Result<usize, usize>
+    ensures value { result ≡ sought E.Key.TotalOrder.order E.keyed entries.now key }
+    ensures there { IfOk result (λ at. at < length entries.now) }
+    ensures bound { IfErr result (λ at. at ≤ length entries.now) }
 {
     for (i, e) in entries.iter().enumerate() {
         match e.key().compare(key) {
             Ordering::Less => {}
-            Ordering::Equal => return Found {
-                place: i,
-                found: true,
-            },
-            Ordering::Greater => return Found {
-                place: i,
-                found: false,
-            },
+            Ordering::Equal => return Ok(i),
+            Ordering::Greater => return Err(i),
         }
     }
-    Found {
-        place: entries.len(),
-        found: false,
-    }
+    Err(entries.len())
 }

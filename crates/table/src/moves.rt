@@ -1,88 +1,94 @@
-// Moves within a slice whose first `count` places are in use.
-ghost use Rattle.std.specs.Prelude.{◌≡◌, ◌+◌, ◌<◌, ◌≤◌, true, false, not, ◌++◌, length, take, drop, is_ok, if◌then◌else◌, filter, nat_le};
-ghost use Rattle.std.specs.List.{insert, AllByRecursion};
-ghost use Rattle.table.specs.Table.{place, has_key, entered};
+// How entries are found in a table, come into it and go.
+ghost use Rattle.std.specs.Prelude.{◌≡◌, ◌+◌, ◌<◌, ◌≤◌, true, false, not, length, take, drop, is_ok, if◌then◌else◌, filter, nat_le, IfOk, IfErr, replicate};
+ghost use Rattle.std.specs.List.{AllByRecursion};
+ghost use Rattle.table.specs.Table.{place, has_key, sought, entered};
 ghost use Rattle.table.specs.Slice.{over, packed};
+ghost use Rattle.table.specs.View.{slice_of, in_use};
 
-use crate::entries::Full;
-use crate::lookup::Entry;
+use crate::entries::{Full, Table};
+use crate::lookup::{Entry, search};
 
-// Joins `entry` to the one of its key, which stands at `at`.
-pub fn join_at<E: Entry>(entries: &mut [E], count: usize, at: usize, entry: E)
-    requires room { (count ≤ length entries.old) × (at < count) }
-    requires place { at ≡ place E.Key.TotalOrder.order E.keyed (take count entries.old) (E.keyed entry) }
-    requires found { has_key E.Key.TotalOrder.order E.keyed (take count entries.old) (E.keyed entry) ≡ true }
-    requires joins { AllByRecursion (λ x. E.joinable x entry) (take count entries.old) }
-    ensures after { entries.new ≡ over (entered E.Key.TotalOrder.order E.keyed E.joined (take count entries.old) entry) entries.old }
-    ensures size { length (entered E.Key.TotalOrder.order E.keyed E.joined (take count entries.old) entry) ≡ count }
+fn fill<E: Copy>(entries: &mut [E], blank: E)
+    ensures after { entries.new ≡ replicate (length entries.old) blank }
 {
-    entries[at] = entries[at].join(entry);
-}
-
-// Shifts the entries from `at` on one place up, and writes `entry` there.
-fn shift_in<E: Copy>(entries: &mut [E], count: usize, at: usize, entry: E)
-    requires { (at ≤ count) × (count < length entries.old) }
-    ensures after { entries.new ≡ insert (take count entries.old) at entry ++ drop (count + 1) entries.old }
-{
-    let mut i = count;
-    while i > at {
-        entries[i] = entries[i - 1];
-        i -= 1;
+    for e in entries.iter_mut() {
+        *e = blank;
     }
-    entries[at] = entry;
 }
 
-// Puts `entry`, whose key does not stand, at its place `at`.
-pub fn insert_at<E: Entry>(entries: &mut [E], count: usize, at: usize, entry: E) -> Result<(), Full>
-    requires room { (count ≤ length entries.old) × (at ≤ count) }
-    requires place { at ≡ place E.Key.TotalOrder.order E.keyed (take count entries.old) (E.keyed entry) }
-    requires missing { has_key E.Key.TotalOrder.order E.keyed (take count entries.old) (E.keyed entry) ≡ false }
-    ensures answer { is_ok result ≡ nat_le (length (entered E.Key.TotalOrder.order E.keyed E.joined (take count entries.old) entry)) (length entries.old) }
-    ensures after { entries.new ≡ (if is_ok result then over (entered E.Key.TotalOrder.order E.keyed E.joined (take count entries.old) entry) entries.old else entries.old) }
-    ensures size { length (entered E.Key.TotalOrder.order E.keyed E.joined (take count entries.old) entry) ≡ count + 1 }
-{
-    if count == entries.len() {
-        return Err(Full);
+impl<E: Entry> Table<'_, E> {
+    pub fn find(&self, key: E::Key) -> Result<usize, usize>
+        ensures value { result ≡ sought E.Key.TotalOrder.order E.keyed (in_use self.now) key }
+        ensures there { IfOk result (λ at. at < self.now.count) }
+        ensures bound { IfErr result (λ at. at ≤ self.now.count) }
+    {
+        search(&self.entries[0..self.count], key)
     }
-    shift_in(entries, count, at, entry);
-    Ok(())
-}
 
-// Moves the entries that are not spent to the front, in their order, and answers how many they are.
-fn compact<E: Entry>(entries: &mut [E], count: usize) -> usize
-    requires { count ≤ length entries.old }
-    ensures front { take result entries.new ≡ filter (λ e. not (E.spent e)) (take count entries.old) }
-    ensures rest { drop count entries.new ≡ drop count entries.old }
-    ensures bound { result ≤ count }
-{
-    let mut used = 0;
-    for i in 0..count {
-        let e = entries[i];
-        if !e.is_spent() {
-            entries[used] = e;
-            used += 1;
+    // Joins the entry of the same key, or takes its place between its neighbours.
+    pub fn enter(&mut self, entry: E) -> Result<(), Full>
+        requires joins { AllByRecursion (λ x. E.joinable x entry) (in_use self.old) }
+        ensures answer { is_ok result ≡ nat_le (length (entered E.Key.TotalOrder.order E.keyed E.joined (in_use self.old) entry)) (length (slice_of self.old)) }
+        ensures after { slice_of self.new ≡ (if is_ok result then over (entered E.Key.TotalOrder.order E.keyed E.joined (in_use self.old) entry) (slice_of self.old) else slice_of self.old) }
+        ensures count { self.new.count ≡ (if is_ok result then length (entered E.Key.TotalOrder.order E.keyed E.joined (in_use self.old) entry) else self.old.count) }
+        ensures lender { self.new.entries.ghost_name ≡ self.old.entries.ghost_name }
+    {
+        match self.find(entry.key()) {
+            Ok(at) => {
+                self.entries[at] = self.entries[at].join(entry);
+                Ok(())
+            }
+            Err(at) => self.insert_at(at, entry),
         }
     }
-    used
-}
 
-// Writes `blank` into the places from `start` up to `end`.
-fn clear<E: Copy>(entries: &mut [E], start: usize, end: usize, blank: E)
-    requires { (start ≤ end) × (end ≤ length entries.old) }
-    ensures after { entries.new ≡ over (packed end blank (take start entries.old)) entries.old }
-{
-    for i in start..end {
-        entries[i] = blank;
+    // Puts `entry`, whose key does not stand, at its place `at`.
+    fn insert_at(&mut self, at: usize, entry: E) -> Result<(), Full>
+        requires room { at ≤ self.old.count }
+        requires place { at ≡ place E.Key.TotalOrder.order E.keyed (in_use self.old) (E.keyed entry) }
+        requires missing { has_key E.Key.TotalOrder.order E.keyed (in_use self.old) (E.keyed entry) ≡ false }
+        ensures answer { is_ok result ≡ nat_le (length (entered E.Key.TotalOrder.order E.keyed E.joined (in_use self.old) entry)) (length (slice_of self.old)) }
+        ensures after { slice_of self.new ≡ (if is_ok result then over (entered E.Key.TotalOrder.order E.keyed E.joined (in_use self.old) entry) (slice_of self.old) else slice_of self.old) }
+        ensures count { self.new.count ≡ (if is_ok result then length (entered E.Key.TotalOrder.order E.keyed E.joined (in_use self.old) entry) else self.old.count) }
+        ensures lender { self.new.entries.ghost_name ≡ self.old.entries.ghost_name }
+    {
+        if self.count == self.entries.len() {
+            return Err(Full);
+        }
+        self.entries.copy_within(at..self.count, at + 1);
+        self.entries[at] = entry;
+        self.count += 1;
+        Ok(())
     }
-}
 
-// Drops the spent entries, blanks the places left over, and answers how many entries there are now.
-pub fn drop_spent<E: Entry>(entries: &mut [E], count: usize, blank: E) -> usize
-    requires { count ≤ length entries.old }
-    ensures value { result ≡ length (filter (λ e. not (E.spent e)) (take count entries.old)) }
-    ensures after { entries.new ≡ over (packed count blank (filter (λ e. not (E.spent e)) (take count entries.old))) entries.old }
-{
-    let used = compact(entries, count);
-    clear(entries, used, count, blank);
-    used
+    // Drops the spent entries, and blanks the places left over.
+    pub fn sweep(&mut self, blank: E)
+        ensures after { slice_of self.new ≡ over (packed self.old.count blank (filter (λ e. not (E.spent e)) (in_use self.old))) (slice_of self.old) }
+        ensures count { self.new.count ≡ length (filter (λ e. not (E.spent e)) (in_use self.old)) }
+        ensures lender { self.new.entries.ghost_name ≡ self.old.entries.ghost_name }
+    {
+        let kept = self.compact();
+        fill(&mut self.entries[kept..self.count], blank);
+        self.count = kept;
+    }
+
+    // Moves the entries that are not spent to the front, in their order, and answers how many they are.
+    // Reading goes ahead of writing in the one slice, so that both places are counted.
+    fn compact(&mut self) -> usize
+        ensures front { take result (slice_of self.new) ≡ filter (λ e. not (E.spent e)) (in_use self.old) }
+        ensures rest { drop self.old.count (slice_of self.new) ≡ drop self.old.count (slice_of self.old) }
+        ensures bound { result ≤ self.old.count }
+        ensures count { self.new.count ≡ self.old.count }
+        ensures lender { self.new.entries.ghost_name ≡ self.old.entries.ghost_name }
+    {
+        let mut kept = 0;
+        for i in 0..self.count {
+            let e = self.entries[i];
+            if !e.is_spent() {
+                self.entries[kept] = e;
+                kept += 1;
+            }
+        }
+        kept
+    }
 }

@@ -14,6 +14,9 @@ pub trait TotalOrder: Copy {
         ensures value { result ≡ order.rank self other };
 }
 
+// An order of its own, since the library's order of six bytes is another one, and since equal ranks mean equal keys here, which
+// the library's laws of an order leave open. One impl for both numbers would need a trait of numbers with three ghost members and
+// an impl for each: longer than the two impls.
 impl TotalOrder for u8 {
     ghost order = { by_number };
 

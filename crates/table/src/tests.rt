@@ -110,8 +110,8 @@ fn bids_join_and_go(rt: HostRuntime) -> Result<(), Fail> {
         entries: &mut bids,
         count,
     };
-    assert!(rt; table.find(7).found && table.find(7).place == 1);
-    assert!(rt; !table.find(8).found && table.find(8).place == 2);
+    assert_eq!(rt; table.find(7), Ok(1));
+    assert_eq!(rt; table.find(8), Err(2));
     table.sweep(NONE);
     assert_eq!(rt; table.count, 2);
     for (place, seat, price) in [(0, 7, 5), (1, 9, 1), (2, 0, 0)] {

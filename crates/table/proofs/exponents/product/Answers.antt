@@ -7,7 +7,7 @@ use Rattle.table.proofs.exponents.product.Goals as goal
 pub overflow_add-sums : goal.overflow_add-sums
 overflow_add-sums c =
     let id : ℕ → ℕ = λ x. x in
-    omega (arith, get_or-le-sum_by id c.args.a c.loop-i.i 0 (omega arith), get_or-le-sum_by id c.args.b c.loop-i.i 0 (omega arith))
+    omega (arith, c.loop-i.invariant.2 c.loop-i.i (omega arith), get_or-le-sum_by id c.args.a c.loop-i.i 0 (omega arith), get_or-le-sum_by id c.args.b c.loop-i.i 0 (omega arith))
 
 pub returns : goal.returns
 returns c =
