@@ -2,7 +2,7 @@
 ghost use Rattle.custom.specs.Above.{tighter_above_method};
 
 use interval::Interval;
-use polynomial::Term;
+use polynomial::Polynomial;
 use ranging::Ranging;
 
 #[derive(Clone, Copy, Debug)]
@@ -14,9 +14,9 @@ pub struct TighterAbove<A, B> {
 impl<A: Ranging, B: Ranging> Ranging for TighterAbove<A, B> {
     ghost meaning = { λ x. tighter_above_method (A.Ranging.meaning x.first) (B.Ranging.meaning x.second) };
 
-    fn range(&self, terms: &[Term]) -> Interval {
-        let first = self.first.range(terms);
-        let second = self.second.range(terms);
+    fn range(&self, polynomial: Polynomial<'_>) -> Interval {
+        let first = self.first.range(polynomial);
+        let second = self.second.range(polynomial);
         if first.upper <= second.upper {
             first
         } else {

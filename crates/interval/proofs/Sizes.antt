@@ -4,9 +4,8 @@ use borrow.Author.Differences.{up, down, product_is, ints}
 use Rattle.std.proofs.lemmas.Int.{clamps}
 use Rattle.std.specs.Int.{int_min, int_max}
 use Rattle.interval.specs.declared.marks.Interval.{Interval}
-use Rattle.interval.specs.Interval.{Bounded, Sized, Fits, fits, floor_div, ceil_div, least, greatest, plus, minus, negated, times, even_reach, full_reach}
+use Rattle.interval.specs.Interval.{Bounded, Sized, Fits, fits, floor_div, ceil_div, plus, negated, even_reach, full_reach}
 use Rattle.interval.specs.Kind.{IsScale}
-use Rattle.interval.proofs.Rounding.{floor_le_ceil}
 
 pub scale-above : {S : ℕ} → IsScale S → 0 < S
 scale-above s = subst (λ (k : ℕ). 0 < k) (sym s.2) (pow_pos s.0)

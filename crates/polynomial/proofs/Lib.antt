@@ -11,4 +11,3 @@ pub mod Regroup
 pub mod QuadraticLaws
 pub mod Values
 pub mod Coefficients
-mod Fitting

@@ -12,8 +12,9 @@ use Rattle.table.specs.Table.{entry, Ascending}
 use Rattle.polynomial.specs.declared.term.Term.{Term}
 use Rattle.polynomial.specs.Reach.{term, coefficient_at}
 use Rattle.polynomial.specs.Quadratic.{point, paired}
-use Rattle.polynomial.proofs.Standing.{same_rank, equal_keys, entry_key, entry_own}
-use Rattle.polynomial.proofs.Products.{degree-product, even-square, root-square, square-root}
+use Rattle.table.proofs.Ascents.{same_rank, equal_keys}
+use Rattle.table.proofs.Readings.{entry_key, entry_own}
+use Rattle.table.proofs.Monomials.{degree-product, even-square, root-square, square-root}
 
 abbrev pub monomial_of : Term → Monomial
 monomial_of t = t.monomial
@@ -57,21 +58,21 @@ abbrev pub same : Monomial → Monomial → Bool
 same m n = is_eq (by_degree.rank m n)
 
 same_refl : {m n : Monomial} → m ≡ n → same m n ≡ true
-same_refl {m} {n} e = rw e (ap is_eq (same_rank by_degree monomial_of n))
+same_refl {m} {n} e = rw e (ap is_eq (same_rank by_degree n))
 
 pub square_or_root : (n m : Monomial) (b : Bool) → (same m (multiplied n n) && (eqb (degree n) 1 && b)) ≡ (same n (root m) && (square m && b))
 square_or_root n m b = same_test (same m (multiplied n n) && (eqb (degree n) 1 && b)) (same n (root m) && (square m && b))
     (λ h.
     let f = and_parts (same m (multiplied n n)) (eqb (degree n) 1 && b) h in
     let g = and_parts (eqb (degree n) 1) b f.1 in
-    let e = equal_keys by_degree monomial_of m (multiplied n n) f.0 in
+    let e = equal_keys by_degree m (multiplied n n) f.0 in
     and_from (same n (root m)) (square m && b) (same_refl (sym (ap root e ∙ root-square n)))
     (and_from (square m) b (rw e (square_of n (eqb-true (degree n) 1 g.0))) g.1))
     (λ h.
     let f = and_parts (same n (root m)) (square m && b) h in
     let g = and_parts (square m) b f.1 in
     let k = and_parts (eqb (degree m) 2) (even m) g.0 in
-    let e = equal_keys by_degree monomial_of n (root m) f.0 in
+    let e = equal_keys by_degree n (root m) f.0 in
     and_from (same m (multiplied n n)) (eqb (degree n) 1 && b) (same_refl (sym (ap (λ x. multiplied x x) e ∙ square-root m k.1)))
     (and_from (eqb (degree n) 1) b (eq-eqb (degree n) 1 (ap degree e ∙ root-linear m (eqb-true (degree m) 2 k.0) k.1)) g.1))
 

@@ -1,41 +1,12 @@
--- Products of monomials: their degree, squares and roots, and that the value of a product is the product of the values.
--- Assumes nothing.
-use Rattle.std.proofs.Common.{◌≡◌, ℕ, zero, suc, ◌+◌, ◌%◌, true, eqb, List, [], ◌∷◌, length, pos, sym, refl, ap, ◌∙◌, ap₂, suc-add, zero-add, arith}
-use Rattle.std.proofs.lemmas.List.Sums.{sum_by-cons}
-use Rattle.std.proofs.lemmas.Bool.{eqb-true, eq-eqb, and_parts, and_from}
+-- The value of a product of monomials is the product of their values. Assumes nothing.
+use Rattle.std.proofs.Common.{◌≡◌, ℕ, zero, suc, ◌+◌, List, [], ◌∷◌, length, pos, sym, ap, ◌∙◌, ap₂, suc-add, zero-add, arith}
 use Rattle.rational.specs.Fraction.{Fraction, whole}
 use Rattle.rational.proofs.Solver.{lit, ◌⊗◌, ◌≈◌, ring1, ring3, ring4}
 use Rattle.rational.proofs.Rational.{ℚ, ⟦◌⟧, ◌*ℚ◌, of, ℚ_ring}
 use Rattle.rational.proofs.Powers.{pow}
-use Rattle.table.specs.Monomial.{Monomial, degree, multiplied, even, root}
+use Rattle.table.specs.Monomial.{Monomial, multiplied}
 use Rattle.polynomial.proofs.Reaches.{value, value_cons, one_is}
 
--- ---- degrees, squares and roots
-degree_cons : (e : ℕ) (m : Monomial) → degree (e ∷ m) ≡ e + degree m
-degree_cons e m = sum_by-cons (λ x. x) e m
-
-pub degree-product : (m n : Monomial) → length m ≡ length n → degree (multiplied m n) ≡ degree m + degree n
-degree-product [] [] h = refl
-degree-product [] (f ∷ n) h = absurd (omega arith)
-degree-product (e ∷ m) [] h = absurd (omega arith)
-degree-product (e ∷ m) (f ∷ n) h = omega (arith, degree-product m n (omega arith), degree_cons (e + f) (multiplied m n), degree_cons e m, degree_cons f n)
-
-pub even-square : (m : Monomial) → even (multiplied m m) ≡ true
-even-square [] = refl
-even-square (e ∷ m) = and_from (eqb ((e + e) % 2) 0) (even (multiplied m m)) (eq-eqb ((e + e) % 2) 0 (omega arith)) (even-square m)
-
-pub root-square : (m : Monomial) → root (multiplied m m) ≡ m
-root-square [] = refl
-root-square (e ∷ m) = ap₂ (λ (x : ℕ) (y : Monomial). x ∷ y) (omega arith) (root-square m)
-
-pub square-root : (m : Monomial) → even m ≡ true → multiplied (root m) (root m) ≡ m
-square-root [] t = refl
-square-root (e ∷ m) t =
-    let h = and_parts (eqb (e % 2) 0) (even m) t in
-    let z = eqb-true (e % 2) 0 h.0 in
-    ap₂ (λ (x : ℕ) (y : Monomial). x ∷ y) (omega arith) (square-root m h.1)
-
--- ---- values
 pow_sum : (u : ℚ) (a b : ℕ) → pow u (a + b) ≡ pow u a *ℚ pow u b
 unfolding pow
 pow_sum u zero b = rw zero-add (ring1 ℚ_ring (λ p. p ≈ lit (pos 1) ⊗ p) tt (pow u b))

@@ -25,7 +25,8 @@ use Rattle.polynomial.proofs.Totals.{total}
 use Rattle.polynomial.proofs.Choices.{Choice, chosen, holds_by}
 use Rattle.polynomial.proofs.PlainLaws.{reach-chosen}
 use Rattle.polynomial.proofs.Joint.{quad, inside-joint, joint_narrows}
-use Rattle.polynomial.proofs.Products.{degree-product, even-square, square-root, value-product}
+use Rattle.table.proofs.Monomials.{degree-product, even-square, square-root}
+use Rattle.polynomial.proofs.Products.{value-product}
 use Rattle.polynomial.proofs.Pairs.{Pair, Own, all_own, term-at}
 use Rattle.polynomial.proofs.Regroup.{moved, regrouping, by_part}
 

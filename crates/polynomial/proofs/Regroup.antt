@@ -14,7 +14,7 @@ use Rattle.polynomial.specs.Reach.{term, reach, coefficient_at}
 use Rattle.polynomial.specs.Quadratic.{joint, point, paired, part}
 use Rattle.polynomial.proofs.Totals.{total, regrouped}
 use Rattle.polynomial.proofs.Standing.{under, one_under}
-use Rattle.polynomial.proofs.Products.{square-root}
+use Rattle.table.proofs.Monomials.{square-root}
 use Rattle.polynomial.proofs.Pairs.{monomial_of, term-at, Own, all_own, Pair, square, same, square_or_root, pair_of}
 
 -- ---- tests

@@ -1,5 +1,7 @@
 -- What values, reaches, joint ranges and methods keep. Assumes nothing.
-use Rattle.std.specs.Prelude.{List, ℤ, pos, negsuc}
+use Rattle.std.specs.Prelude.{◌≡◌, Bool, ◌&&◌, nat_eq, List, ℤ, pos, negsuc, Decides}
+use Rattle.std.specs.Cmp.Lexicographic.{pointwise}
+use Rattle.std.specs.Ordering.{int_eq}
 use Rattle.rational.specs.Fraction.{Fraction, whole, ◌+ᶠ◌, ◌*ᶠ◌, ◌≤ᶠ◌}
 use Rattle.interval.specs.declared.marks.Interval.{Interval}
 use Rattle.interval.specs.Interval.{◌within◌, interval, plus, meet, even_reach, full_reach}
@@ -9,6 +11,13 @@ use Rattle.polynomial.specs.Reach.{reach}
 use Rattle.polynomial.specs.Value.{monomial_value, lower_value, upper_value, Units, Inside, value_with}
 use Rattle.polynomial.specs.Method.{plain, Within, Lawful}
 use Rattle.polynomial.specs.Quadratic.{joint, quadratic}
+
+-- an equality of terms tells that the exponents and the two ends are equal, and so that they are one term
+abbrev pub EqualByParts : (Term → Term → Bool) → Type 0
+EqualByParts eq =
+    (x y : Term)
+    → (eq x y ≡ (pointwise nat_eq x.monomial y.monomial && (int_eq x.coefficient.lower y.coefficient.lower && int_eq x.coefficient.upper y.coefficient.upper)))
+    × Decides (eq x y) (x ≡ y)
 
 -- whichever number each coefficient stands for, the value lies from the lower to the upper one
 abbrev pub ValuesBetween : Type 0

@@ -4,3 +4,4 @@ pub mod Value
 pub mod Method
 pub mod Quadratic
 pub mod Laws
+pub mod Facts

@@ -1,6 +1,13 @@
 // The laws of values, reaches and ranges: the functions here only carry them.
 ghost use Rattle.polynomial.specs.Laws.{ValuesBetween, ReachEncloses, JointEncloses, JointNarrows};
-ghost use Rattle.polynomial.specs.Laws.{PlainLawful, QuadraticLawful, MeetLawful};
+ghost use Rattle.polynomial.specs.Laws.{PlainLawful, QuadraticLawful, MeetLawful, EqualByParts};
+
+use crate::term::Term;
+
+// `==` tells of two terms that both parts are equal, which only holds of a term and itself.
+pub fn terms_are_told_apart()
+    ensures equality { EqualByParts ⟦<Term as PartialEq>⟧.eq }
+{}
 
 // A polynomial's value lies between its two ends, whichever number each coefficient stands for.
 pub fn values_hold()

@@ -10,9 +10,8 @@ use table::{Monomial, search};
 pub fn coefficient_at(terms: &[Term], monomial: Monomial) -> Interval
     ensures value { result ≡ coefficient_at terms.now monomial }
 {
-    let sought = search(terms, monomial);
-    if sought.found {
-        return terms[sought.place].coefficient;
+    match search(terms, monomial) {
+        Ok(at) => terms[at].coefficient,
+        Err(_) => Interval { lower: 0, upper: 0 },
     }
-    Interval { lower: 0, upper: 0 }
 }

@@ -12,12 +12,7 @@ use table::Table;
 pub fn all_fit(terms: &[Term]) -> bool
     ensures value { result ≡ all_fit terms.now }
 {
-    for term in terms {
-        if !term.coefficient.fits() {
-            return false;
-        }
-    }
-    true
+    terms.iter().all(|term| term.coefficient.fits())
 }
 
 // A term joins the one of its monomial, or takes its place. Answers how many are in use then, or None where no place is left.
@@ -31,10 +26,8 @@ pub fn enter(terms: &mut [Term], count: usize, term: Term) -> Option<usize>
         entries: terms,
         count,
     };
-    match table.enter(term) {
-        Ok(()) => Some(table.count),
-        Err(_) => None,
-    }
+    table.enter(term).ok()?;
+    Some(table.count)
 }
 
 // Drops terms of [0, 0], and answers how many are in use then.

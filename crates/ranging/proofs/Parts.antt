@@ -1,10 +1,10 @@
 -- The parts of the quadratic range stay small, and add up one term at a time. Assumes nothing.
-use Rattle.std.proofs.Common.{◌≡◌, ℕ, ◌+◌, ◌^◌, ◌<◌, ◌≤◌, ◌&&◌, eqb, List, length, get_or, drop, ℤ, ◌+ℤ◌, sym, refl, subst, arith, lit≤}
+use Rattle.std.proofs.Common.{◌≡◌, ℕ, ◌+◌, ◌^◌, ◌<◌, ◌≤◌, ◌&&◌, eqb, List, length, get_or, drop, ℤ, sym, refl, subst, arith, lit≤}
 use Rattle.std.proofs.ByRecursion.{All-get_or}
 use Rattle.std.proofs.lemmas.Int.{ints}
 use Rattle.std.proofs.lemmas.Bool.{cond_both}
 use Rattle.interval.specs.declared.marks.Interval.{Interval}
-use Rattle.interval.specs.Interval.{limit, interval, zero_interval, Sized, Bounded, Fits}
+use Rattle.interval.specs.Interval.{limit, interval, zero_interval, plus, Sized, Bounded, Fits}
 use Rattle.interval.proofs.Enclosure.{inside_ordered}
 use Rattle.interval.proofs.Sizes.{sized_weaken, sized-plus, sized-even, sized-full, lower_bounded}
 use Rattle.table.specs.Monomial.{degree, even, root}
@@ -15,7 +15,7 @@ use Rattle.polynomial.specs.Quadratic.{joint, paired, part, parts, quadratic}
 use Rattle.polynomial.proofs.Reaches.{one_unital}
 use Rattle.polynomial.proofs.Coefficients.{unread, coefficient-fits}
 use Rattle.polynomial.proofs.Joint.{inside-joint, joint_narrows}
-use Rattle.ranging.proofs.Adding.{Step, step, all_added, reach-sized}
+use Rattle.ranging.proofs.Adding.{added, all_added, reach-sized}
 
 zero_sized : (n : ℕ) → Sized n zero_interval
 zero_sized n = record { low = omega (arith, ints); order = omega (arith, ints); high = omega (arith, ints) }
@@ -45,10 +45,12 @@ part-sized ts t p f =
 pub term_fits : (ts : List Term) (i : ℕ) → i < length ts → Polynomial ts → Fits (get_or ts i unread).coefficient
 term_fits ts i h p = (All-get_or FitTerm ts i unread h p.fit).fit
 
-pub part_step : (ts : List Term) (i : ℕ) (r : Interval) → i < length ts → Polynomial ts → r ≡ part ts (get_or ts i unread) → Step (parts ts (drop i ts)) r (parts ts (drop (i + 1) ts))
-part_step ts i r h p e = step (part ts) (parts ts) refl (λ t us. refl) ts i r h e (subst (Sized (2 ^ 48)) (sym e) (part-sized ts (get_or ts i unread) p (term_fits ts i h p)))
+pub item-sized : (ts : List Term) (i : ℕ) (r : Interval) → i < length ts → Polynomial ts → r ≡ part ts (get_or ts i unread) → Sized (2 ^ 48) r
+item-sized ts i r h p e = subst (Sized (2 ^ 48)) (sym e) (part-sized ts (get_or ts i unread) p (term_fits ts i h p))
 
-pub quadratic_all : (ts : List Term) (i : ℕ) (lower upper : ℤ) → length ts ≤ i
-    → lower +ℤ (parts ts (drop i ts)).lower ≡ (parts ts ts).lower → upper +ℤ (parts ts (drop i ts)).upper ≡ (parts ts ts).upper → interval lower upper ≡ quadratic ts
+pub part_more : (ts : List Term) (i : ℕ) (sum r : Interval) → i < length ts → r ≡ part ts (get_or ts i unread) → plus sum (parts ts (drop i ts)) ≡ parts ts ts → plus (plus sum r) (parts ts (drop (i + 1) ts)) ≡ parts ts ts
+part_more ts = added (part ts) (parts ts) refl (λ t us. refl) ts
+
+pub quadratic_all : (ts : List Term) (i : ℕ) (sum : Interval) → length ts ≤ i → plus sum (parts ts (drop i ts)) ≡ parts ts ts → sum ≡ quadratic ts
 unfolding quadratic
 quadratic_all ts = all_added (part ts) (parts ts) refl (λ t us. refl) ts

@@ -26,49 +26,6 @@ fn rounded(z: i64, n: i64) -> Interval
     }
 }
 
-fn square(b: i64) -> i64
-    requires { Bounded limit b }
-    ensures value { result ≡ b *ℤ b }
-    ensures bound { Bounded (2 ^ 62) result }
-{
-    b * b
-}
-
-// The vertex -b²/(4a), rounded down and rounded up.
-fn vertex(a: i64, b: i64) -> Interval
-    requires { (Bounded limit a) × (Bounded limit b) }
-    ensures value { result ≡ interval (vertex_down a b) (vertex_up a b) }
-{
-    if a > 0 {
-        return rounded(-square(b), 4 * a);
-    }
-    if a < 0 {
-        return rounded(square(b), -4 * a);
-    }
-    Interval { lower: 0, upper: 0 }
-}
-
-// The vertex lies between u = -1 and u = 1.
-fn turns(a: i64, b: i64) -> bool
-    requires { Bounded limit a }
-    ensures value { result ≡ turns a b }
-{
-    b.unsigned_abs() <= 2 * a.unsigned_abs()
-}
-
-// From the lesser to the greater value at u = -1 and u = 1.
-fn at_ends(a: i64, b: i64) -> Interval
-    requires { (Bounded limit a) × (Bounded limit b) }
-    ensures value { result ≡ at_ends a b }
-{
-    let left = a - b;
-    let right = a + b;
-    Interval {
-        lower: left.min(right),
-        upper: left.max(right),
-    }
-}
-
 // The least interval that holds both.
 fn spanned(i: Interval, j: Interval) -> Interval
     ensures value { result ≡ spanned i j }
@@ -79,14 +36,65 @@ fn spanned(i: Interval, j: Interval) -> Interval
     }
 }
 
-// The values at both ends and, where the parabola turns between them, at its vertex.
-pub fn joint(a: i64, b: i64) -> Interval
-    requires { (Bounded limit a) × (Bounded limit b) }
-    ensures value { result ≡ joint a b }
-{
-    let ends = at_ends(a, b);
-    if turns(a, b) {
-        return spanned(vertex(a, b), ends);
+// a·u² + b·u, by its two coefficients.
+#[derive(Clone, Copy)]
+pub struct Parabola {
+    pub square: i64,
+    pub linear: i64,
+    ghost square_fits: { Bounded limit square },
+    ghost linear_fits: { Bounded limit linear },
+}
+
+impl Parabola {
+    // b².
+    fn linear_squared(self) -> i64
+        ensures value { result ≡ self.linear *ℤ self.linear }
+        ensures bound { Bounded (2 ^ 62) result }
+    {
+        self.linear * self.linear
     }
-    ends
+
+    // The vertex -b²/(4a), rounded down and rounded up.
+    fn vertex(self) -> Interval
+        ensures value { result ≡ interval (vertex_down self.square self.linear) (vertex_up self.square self.linear) }
+    {
+        if self.square > 0 {
+            return rounded(-self.linear_squared(), 4 * self.square);
+        }
+        if self.square < 0 {
+            return rounded(self.linear_squared(), -4 * self.square);
+        }
+        Interval { lower: 0, upper: 0 }
+    }
+
+    // The vertex lies between u = -1 and u = 1.
+    fn turns(self) -> bool
+        ensures value { result ≡ turns self.square self.linear }
+    {
+        self.linear.unsigned_abs() <= 2 * self.square.unsigned_abs()
+    }
+
+    // From the lesser to the greater value at u = -1 and u = 1.
+    fn at_ends(self) -> Interval
+        ensures value { result ≡ at_ends self.square self.linear }
+    {
+        let left = self.square - self.linear;
+        let right = self.square + self.linear;
+        Interval {
+            lower: left.min(right),
+            upper: left.max(right),
+        }
+    }
+
+    // The values at both ends and, where the parabola turns between them, at its vertex.
+    pub fn range(self) -> Interval
+        ensures value { result ≡ joint self.square self.linear }
+    {
+        let ends = self.at_ends();
+        if self.turns() {
+            spanned(self.vertex(), ends)
+        } else {
+            ends
+        }
+    }
 }

@@ -3,7 +3,7 @@ ghost use Rattle.ranging.specs.NamedMethods.{meet_method};
 
 use crate::method::Ranging;
 use interval::Interval;
-use polynomial::Term;
+use polynomial::Polynomial;
 
 // The larger lower end and the smaller upper end of two methods.
 #[derive(Clone, Copy, Debug)]
@@ -15,7 +15,9 @@ pub struct Meet<A, B> {
 impl<A: Ranging, B: Ranging> Ranging for Meet<A, B> {
     ghost meaning = { λ x. meet_method (A.Ranging.meaning x.first) (B.Ranging.meaning x.second) };
 
-    fn range(&self, terms: &[Term]) -> Interval {
-        self.first.range(terms).meet(self.second.range(terms))
+    fn range(&self, polynomial: Polynomial<'_>) -> Interval {
+        self.first
+            .range(polynomial)
+            .meet(self.second.range(polynomial))
     }
 }

@@ -1,16 +1,15 @@
 // Ranging methods.
 ghost use Rattle.std.specs.Prelude.{◌≡◌};
-ghost use Rattle.polynomial.specs.Method.{MethodMeaning, Polynomial, Ranges};
+ghost use Rattle.polynomial.specs.Method.{MethodMeaning, Ranges};
 
 use interval::Interval;
-use polynomial::Term;
+use polynomial::Polynomial;
 
 // Turns any polynomial whose coefficients fit into a range.
 pub trait Ranging {
     ghost meaning: { Self → MethodMeaning };
 
-    fn range(&self, terms: &[Term]) -> Interval
-        requires { Polynomial terms.now }
-        ensures value { result ≡ (meaning self.now).range terms.now }
-        ensures laws { Ranges terms.now result };
+    fn range(&self, polynomial: Polynomial<'_>) -> Interval
+        ensures value { result ≡ (meaning self.now).range polynomial.entry.terms.now }
+        ensures laws { Ranges polynomial.entry.terms.now result };
 }

@@ -6,31 +6,29 @@ ghost use Rattle.ranging.specs.NamedMethods.{plain_method};
 
 use crate::method::Ranging;
 use interval::Interval;
-use polynomial::{Term, reach};
+use polynomial::{Polynomial, Term, reach};
 
 // The reaches added up.
 #[derive(Clone, Copy, Debug)]
 pub struct Plain;
 
-// The plain range of any coefficients up to 2^48: they need not fit.
+// The plain range of any coefficients up to 2^48: they need not fit. A loop of its own over the terms, as the rules say; it shares
+// three lines with the quadratic range, fewer than the contract of a function that took the part of a term as a closure.
 pub fn plain_range(terms: &[Term]) -> Interval
     requires { Addable terms.now }
     ensures value { result ≡ plain terms.now }
 {
-    let mut lower: i64 = 0;
-    let mut upper: i64 = 0;
+    let mut range = Interval { lower: 0, upper: 0 };
     for t in terms {
-        let r = reach(t.monomial, t.coefficient);
-        lower += r.lower;
-        upper += r.upper;
+        range = range.plus(reach(t.monomial, t.coefficient));
     }
-    Interval { lower, upper }
+    range
 }
 
 impl Ranging for Plain {
     ghost meaning = { λ _. plain_method };
 
-    fn range(&self, terms: &[Term]) -> Interval {
-        plain_range(terms)
+    fn range(&self, polynomial: Polynomial<'_>) -> Interval {
+        plain_range(polynomial.terms)
     }
 }

@@ -1,11 +1,11 @@
 // Figures of the three methods and of joint ranges.
-use crate::joint::joint;
+use crate::joint::Parabola;
 use crate::meet::Meet;
 use crate::method::Ranging;
 use crate::plain::Plain;
 use crate::quadratic::Quadratic;
 use interval::Interval;
-use polynomial::Term;
+use polynomial::{Polynomial, Term};
 
 // 27 + 81u + 81u²
 const CUBE: [Term; 3] = [
@@ -68,20 +68,64 @@ fn ranges(rt: HostRuntime) {
         first: Plain,
         second: Quadratic,
     };
-    assert_eq!(rt; Plain.range(&CUBE), ends(-54, 189));
-    assert_eq!(rt; Quadratic.range(&CUBE), ends(6, 189));
-    assert_eq!(rt; both.range(&CUBE), ends(6, 189));
-    assert_eq!(rt; Plain.range(&MIXED), ends(-9, 12));
-    assert_eq!(rt; Quadratic.range(&MIXED), ends(-9, 10));
+    let cube = Polynomial { terms: &CUBE };
+    let mixed = Polynomial { terms: &MIXED };
+    assert_eq!(rt; Plain.range(cube), ends(-54, 189));
+    assert_eq!(rt; Quadratic.range(cube), ends(6, 189));
+    assert_eq!(rt; both.range(cube), ends(6, 189));
+    assert_eq!(rt; Plain.range(mixed), ends(-9, 12));
+    assert_eq!(rt; Quadratic.range(mixed), ends(-9, 10));
 }
 
 // The vertex within, at an end, past it, on a falling parabola, and none.
 #[test]
 fn joints(rt: HostRuntime) {
-    assert_eq!(rt; joint(9, 18), ends(-9, 27));
-    assert_eq!(rt; joint(81, 81), ends(-21, 162));
-    assert_eq!(rt; joint(3, -7), ends(-4, 10));
-    assert_eq!(rt; joint(-4, 3), ends(-7, 1));
-    assert_eq!(rt; joint(0, 5), ends(-5, 5));
-    assert_eq!(rt; joint(0, 0), ends(0, 0));
+    assert_eq!(rt;
+        Parabola {
+            square: 9,
+            linear: 18
+        }
+        .range(),
+        ends(-9, 27)
+    );
+    assert_eq!(rt;
+        Parabola {
+            square: 81,
+            linear: 81
+        }
+        .range(),
+        ends(-21, 162)
+    );
+    assert_eq!(rt;
+        Parabola {
+            square: 3,
+            linear: -7
+        }
+        .range(),
+        ends(-4, 10)
+    );
+    assert_eq!(rt;
+        Parabola {
+            square: -4,
+            linear: 3
+        }
+        .range(),
+        ends(-7, 1)
+    );
+    assert_eq!(rt;
+        Parabola {
+            square: 0,
+            linear: 5
+        }
+        .range(),
+        ends(-5, 5)
+    );
+    assert_eq!(rt;
+        Parabola {
+            square: 0,
+            linear: 0
+        }
+        .range(),
+        ends(0, 0)
+    );
 }

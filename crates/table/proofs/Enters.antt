@@ -1,5 +1,5 @@
 -- What an entry leaves in a slice: the table with it at the front, the rest as it was. Assumes nothing.
-use Rattle.std.proofs.Common.{◌≡◌, ℕ, ◌+◌, ◌<◌, ◌≤◌, Bool, true, false, cond, leb, Ok, Err, Result, List, ◌++◌, length, get_or, take, drop, set, sym, refl, ap, ◌∙◌, subst, arith}
+use Rattle.std.proofs.Common.{◌≡◌, ℕ, ◌+◌, ◌<◌, ◌≤◌, true, false, leb, Ok, Result, List, ◌++◌, length, get_or, take, drop, set, sym, refl, ap, ◌∙◌, subst, arith}
 use Rattle.std.proofs.lemmas.List.Edits.{length-insert}
 use Rattle.std.proofs.lemmas.List.{get_or-take, get_or_read, length-set, length-take-le, set-append_left, take-append-drop}
 use Rattle.std.proofs.lemmas.Bool.{le-leb, lt-leb}
@@ -8,14 +8,7 @@ use Rattle.table.specs.Order.{Order}
 use Rattle.table.specs.Table.{place, has_key, sought, entered}
 use Rattle.table.specs.Slice.{over}
 use Rattle.table.proofs.Places.{entered-placed}
-
--- a place that is answered is the key's, and the answer says whether the key stands there
-answered : (b : Bool) (p i : ℕ) → ◌≡◌ {A = Result ℕ ℕ} (Ok i) (cond b (Ok p) (Err p)) → (i ≡ p) × (b ≡ true)
-answered true p i e = (cc, refl)
-answered false p i e = absurd (cc)
-
-pub there : {E K : Type 0} (o : Order K) (key : E → K) (es : List E) (k : K) (i : ℕ) → Ok i ≡ sought o key es k → (i ≡ place o key es k) × (has_key o key es k ≡ true)
-there o key es k i e = answered (has_key o key es k) (place o key es k) i e
+use Rattle.table.proofs.Searches.{there}
 
 module _ {E : Type 0} (slice : List E) (n i : ℕ) (x : E) (room : n ≤ length slice) (low : i < n) (is : x ≡ get_or slice i x) where
   read : (d : E) → get_or (take n slice) i d ≡ x

@@ -1,9 +1,9 @@
 -- A search from the front: what it seeks is where it would be found among the entries ahead. Assumes nothing.
-use Rattle.std.proofs.Common.{◌≡◌, ℕ, suc, ◌+◌, ◌<◌, ◌≤◌, true, false, List, ◌∷◌, length, get_or, drop, Ordering, Less, Equal, Greater, sym, refl, ap, ◌∙◌, one-add, arith}
+use Rattle.std.proofs.Common.{◌≡◌, ℕ, suc, ◌+◌, ◌<◌, ◌≤◌, Bool, true, false, cond, Ok, Err, Result, List, ◌∷◌, length, get_or, drop, Ordering, Less, Equal, Greater, sym, refl, ap, ◌∙◌, one-add, arith}
 use Rattle.std.specs.Ordering.{is_lt, is_eq}
 use Rattle.std.proofs.lemmas.List.{at_drop_more, at_drop_all}
 use Rattle.table.specs.Order.{Order}
-use Rattle.table.specs.Table.{place, first_is, has_key}
+use Rattle.table.specs.Table.{place, first_is, has_key, sought}
 
 module _ {E K : Type 0} (o : Order K) (key : E → K) where
   -- by the first entry
@@ -51,3 +51,19 @@ module _ {E K : Type 0} (o : Order K) (key : E → K) where
   ahead_more es k i x h is l a =
       let p : place o key (drop i es) k ≡ suc (place o key (drop (i + 1) es) k) = next (λ fs. place o key fs k) es i x h is ∙ place_less x (drop (i + 1) es) k l in
       ahead es k (i + 1) (omega (arith, a.place_is, p)) (a.has_is ∙ next (λ fs. has_key o key fs k) es i x h is ∙ has_less x (drop (i + 1) es) k l)
+
+-- a place that is answered is the key's, and the answer says whether the key stands there
+there_by : (b : Bool) (p i : ℕ) → ◌≡◌ {A = Result ℕ ℕ} (Ok i) (cond b (Ok p) (Err p)) → (i ≡ p) × (b ≡ true)
+there_by true p i e = (cc, refl)
+there_by false p i e = absurd (cc)
+
+missing_by : (b : Bool) (p i : ℕ) → ◌≡◌ {A = Result ℕ ℕ} (Err i) (cond b (Ok p) (Err p)) → b ≡ false
+missing_by true p i e = absurd (cc)
+missing_by false p i e = refl
+
+module _ {E K : Type 0} (o : Order K) (key : E → K) (es : List E) (k : K) (i : ℕ) where
+  pub there : ◌≡◌ {A = Result ℕ ℕ} (Ok i) (sought o key es k) → (i ≡ place o key es k) × (has_key o key es k ≡ true)
+  there e = there_by (has_key o key es k) (place o key es k) i e
+
+  pub missing : ◌≡◌ {A = Result ℕ ℕ} (Err i) (sought o key es k) → has_key o key es k ≡ false
+  missing e = missing_by (has_key o key es k) (place o key es k) i e

@@ -4,3 +4,4 @@ pub mod Table
 pub mod Slice
 pub mod View
 pub mod Laws
+pub mod Facts

@@ -1,5 +1,5 @@
 // How entries are found in a table, come into it and go.
-ghost use Rattle.std.specs.Prelude.{◌≡◌, ◌+◌, ◌<◌, ◌≤◌, true, false, not, length, take, drop, is_ok, if◌then◌else◌, filter, nat_le, IfOk, IfErr, replicate};
+ghost use Rattle.std.specs.Prelude.{◌≡◌, ◌<◌, ◌≤◌, false, not, length, take, drop, is_ok, if◌then◌else◌, filter, nat_le, IfOk, IfErr, replicate};
 ghost use Rattle.std.specs.List.{AllByRecursion};
 ghost use Rattle.table.specs.Table.{place, has_key, sought, entered};
 ghost use Rattle.table.specs.Slice.{over, packed};

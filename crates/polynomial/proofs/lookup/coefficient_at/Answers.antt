@@ -1,10 +1,8 @@
-use Rattle.polynomial.proofs.Coefficients.{coefficient-found, coefficient_missing}
+use Rattle.polynomial.proofs.Coefficients.{coefficient_there, coefficient_missing}
 use Rattle.polynomial.proofs.lookup.coefficient_at.Goals as goal
 
-pub returns-then-sought : goal.returns-then-sought
-returns-then-sought c =
-    let e = c.search-sought.ensures in
-    record { value = coefficient-found c.args.terms.now c.args.monomial _ _ e.place e.found c.if-sought.true (e.within c.if-sought.true) }
+pub returns-in-Ok : goal.returns-in-Ok
+returns-in-Ok c = record { value = coefficient_there c.args.terms.now c.args.monomial c.in-Ok.at c.in-Ok.ensures.value c.in-Ok.ensures.there }
 
-pub returns : goal.returns
-returns c = record { value = coefficient_missing c.args.terms.now c.args.monomial _ c.search-sought.ensures.found c.if-sought.false }
+pub returns-in-Err : goal.returns-in-Err
+returns-in-Err c = record { value = coefficient_missing c.args.terms.now c.args.monomial c.in-Err.field-0 c.in-Err.ensures.value }

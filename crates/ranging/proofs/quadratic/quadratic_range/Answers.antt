@@ -1,25 +1,23 @@
-use Rattle.std.proofs.Common.{arith}
-use Rattle.std.proofs.lemmas.Int.{ints}
-use Rattle.ranging.proofs.Parts.{term_fits, part_step, quadratic_all}
+use Rattle.std.proofs.Common.{arith, lit≤}
+use Rattle.interval.proofs.Sizes.{sized_weaken}
+use Rattle.ranging.proofs.Adding.{few_sized, more_sized}
+use Rattle.ranging.proofs.Parts.{item-sized, part_more, quadratic_all}
 use Rattle.ranging.proofs.quadratic.quadratic_range.Goals as goal
 
-pub part-r-requires : goal.part-r-requires
-part-r-requires c = (c.requires, term_fits c.args.terms.now c.loop-t.t-index c.loop-t-test.true c.requires)
-
-pub overflow_add-lower : goal.overflow_add-lower
-overflow_add-lower c =
-    let s = part_step c.args.terms.now c.loop-t.t-index c.part-r.result c.loop-t-test.true c.requires c.part-r.ensures.value in
-    omega (arith, ints, c.requires.few)
-
-pub overflow_add-upper : goal.overflow_add-upper
-overflow_add-upper c =
-    let s = part_step c.args.terms.now c.loop-t.t-index c.part-r.result c.loop-t-test.true c.requires c.part-r.ensures.value in
-    omega (arith, ints, c.requires.few)
+pub plus-range-requires : goal.plus-range-requires
+plus-range-requires c =
+    let p = c.args.polynomial in
+    let s = item-sized p.terms.now c.loop-t.t-index c.part.result c.loop-t-test.true p.sound c.part.ensures.value in
+    (few_sized c.loop-t.t-index (omega (arith, p.sound.few)) c.loop-t.invariant.1, sized_weaken (lit≤ tt) s)
 
 pub loop-t-preserved : goal.loop-t-preserved
 loop-t-preserved c =
-    let s = part_step c.args.terms.now c.loop-t.t-index c.part-r.result c.loop-t-test.true c.requires c.part-r.ensures.value in
-    omega (arith, ints, c.requires.few)
+    let p = c.args.polynomial in
+    let s = item-sized p.terms.now c.loop-t.t-index c.part.result c.loop-t-test.true p.sound c.part.ensures.value in
+    rw c.plus-range.ensures.value (
+      part_more p.terms.now c.loop-t.t-index c.loop-t.range c.part.result c.loop-t-test.true c.part.ensures.value c.loop-t.invariant.0,
+      more_sized c.loop-t.t-index c.loop-t.invariant.1 s,
+    )
 
 pub returns : goal.returns
-returns c = record { value = quadratic_all c.args.terms.now c.loop-t.t-index _ _ c.loop-t-test.false c.loop-t.invariant.0 c.loop-t.invariant.1 }
+returns c = record { value = quadratic_all c.args.polynomial.terms.now c.loop-t.t-index c.loop-t.range c.loop-t-test.false c.loop-t.invariant.0 }

@@ -14,7 +14,7 @@ doubled k n h = let m : 2 ^ suc k ≤ 2 ^ n = pow_mono h in rw (← pow-succ' 2 
 the_power : (k n : ℕ) → 2 ^ k ≤ 2 ^ n → 2 ^ n < 2 * 2 ^ k → 2 ^ n ≡ 2 ^ k
 the_power k n low high =
     elim (cases_order k n) [
-      inl same ↦ ap (λ e. 2 ^ e) (omega arith)
+      | inl same ↦ ap (λ e. 2 ^ e) (omega arith)
       | inr (inl below) ↦ let d = doubled k n below in absurd (omega arith)
       | inr (inr above) ↦ let d = doubled n k above in absurd (omega arith)
     ]

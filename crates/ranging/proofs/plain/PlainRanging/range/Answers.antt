@@ -5,7 +5,7 @@ use Rattle.ranging.proofs.Adding.{fit_addable}
 use Rattle.ranging.proofs.plain.PlainRanging.range.Goals as goal
 
 pub plain_range-requires : goal.plain_range-requires
-plain_range-requires c = fit_addable c.requires
+plain_range-requires c = fit_addable c.args.polynomial.sound
 
-pub returns : goal.returns
-returns c = record { value = c.plain_range.ensures.value; laws = subst (Ranges c.args.terms.now) (sym c.plain_range.ensures.value) (plain_lawful c.args.terms.now c.requires) }
+pub returns-clause-laws : goal.returns-clause-laws
+returns-clause-laws c = let p = c.args.polynomial in subst (Ranges p.terms.now) (sym c.plain_range.ensures.value) (plain_lawful p.terms.now p.sound)

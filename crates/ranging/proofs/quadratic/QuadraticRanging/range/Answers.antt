@@ -3,5 +3,5 @@ use Rattle.polynomial.specs.Method.{Ranges}
 use Rattle.polynomial.proofs.QuadraticLaws.{quadratic_lawful}
 use Rattle.ranging.proofs.quadratic.QuadraticRanging.range.Goals as goal
 
-pub returns : goal.returns
-returns c = record { value = c.quadratic_range.ensures.value; laws = subst (Ranges c.args.terms.now) (sym c.quadratic_range.ensures.value) (quadratic_lawful c.args.terms.now c.requires) }
+pub returns-clause-laws : goal.returns-clause-laws
+returns-clause-laws c = let p = c.args.polynomial in subst (Ranges p.terms.now) (sym c.quadratic_range.ensures.value) (quadratic_lawful p.terms.now p.sound)
