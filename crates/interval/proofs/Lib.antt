@@ -10,4 +10,3 @@ pub mod Orders
 pub mod Passing
 pub mod GivenEnds
 pub mod Encloses
-pub mod Numbers

@@ -27,15 +27,6 @@ bounded_floor (negsuc a) S h = let d = div-le_self a S in record { low = omega (
 bounded_neg : {n : ℕ} {z : ℤ} → Bounded n z → Bounded n (neg_ℤ z)
 bounded_neg h = record { low = omega (arith, ints); high = omega (arith, ints) }
 
-pub bounded_ceil : {n : ℕ} (z : ℤ) (S : ℕ) → Bounded n z → Bounded n (ceil_div z S)
-bounded_ceil z S h = bounded_neg (bounded_floor (neg_ℤ z) S (bounded_neg h))
-
-bounded_min : {n : ℕ} {a b : ℤ} → Bounded n a → Bounded n b → Bounded n (int_min a b)
-bounded_min h k = record { low = omega (arith, ints, clamps); high = omega (arith, ints, clamps) }
-
-bounded_max : {n : ℕ} {a b : ℤ} → Bounded n a → Bounded n b → Bounded n (int_max a b)
-bounded_max h k = record { low = omega (arith, ints, clamps); high = omega (arith, ints, clamps) }
-
 -- ---- the two ends
 pub lower_bounded : {n : ℕ} {i : Interval} → Sized n i → Bounded n i.lower
 lower_bounded s = record { low = s.low; high = omega (arith, ints) }
@@ -65,6 +56,3 @@ sized-even s = record { low = omega (arith, ints, clamps); order = omega (arith,
 
 pub sized-full : {n : ℕ} {i : Interval} → Sized n i → Sized n (full_reach i)
 sized-full s = record { low = omega (arith, ints, clamps); order = omega (arith, ints, clamps); high = omega (arith, ints, clamps) }
-
-least_le_greatest : (a b c d : ℤ) → int_min (int_min a b) (int_min c d) ≤ℤ int_max (int_max a b) (int_max c d)
-least_le_greatest a b c d = omega (arith, ints, clamps)

@@ -8,7 +8,8 @@ use crate::kind::Kind;
 use crate::marks::Interval;
 use crate::scale::Scale;
 
-// The coefficient is the lower end and the leftover the width; a mark is a unit.
+// The coefficient is the lower end and the leftover the width; a mark is a unit. The fixed kind differs only in its scale: as one type
+// with the exponent as a const parameter, each would need a ghost field for its bound and a constructor, more than its two lines.
 #[derive(Clone, Copy, Debug)]
 pub struct WholeKind;
 

@@ -25,7 +25,7 @@ impl Scale {
         }
     }
 
-    // One mark is one unit.
+    // One mark is one unit. This and the next are constants of their own: a parameter would bring `new` back, with its None.
     pub fn unit() -> Scale
         ensures value { result.bits ≡ 0 }
     {

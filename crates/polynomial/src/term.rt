@@ -9,7 +9,7 @@ use table::{Entry, Monomial};
 // A monomial, as six exponents, and its coefficient.
 #[derive(Clone, Copy, Debug, PartialEq, Eq)]
 pub struct Term {
-    pub monomial: [u8; 6],
+    pub monomial: Monomial,
     pub coefficient: Interval,
 }
 

@@ -16,9 +16,6 @@ module _ {K : Type 0} (o : Order K) where
       go Equal e = refl
       go Greater e = absurd (true≢false (ap is_gt e))
 
-  pub exact-both : Exact o
-  exact-both x y = (o.exact x y, λ e. subst (λ z. o.rank x z ≡ Equal) e (same_rank x))
-
   pub equal_keys : (j k : K) → is_eq (o.rank j k) ≡ true → j ≡ k
   equal_keys j k = go (o.rank j k) refl
     where

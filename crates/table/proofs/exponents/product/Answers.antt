@@ -4,11 +4,6 @@ use Rattle.table.proofs.Monomials.{is_multiplied}
 use Rattle.table.proofs.exponents.product.Goals as goal
 
 -- no exponent is above its degree
-pub overflow_add-sums : goal.overflow_add-sums
-overflow_add-sums c =
-    let id : ℕ → ℕ = λ x. x in
-    omega (arith, c.loop-i.invariant.2 c.loop-i.i (omega arith), get_or-le-sum_by id c.args.a c.loop-i.i 0 (omega arith), get_or-le-sum_by id c.args.b c.loop-i.i 0 (omega arith))
-
 pub returns : goal.returns
 returns c =
     record {

@@ -7,9 +7,6 @@ use Rattle.interval.proofs.Sizes.{lower_bounded, upper_bounded}
 use Rattle.interval.proofs.Passed.{passed_small, end, product_is, least_is, greatest_is, rounded_is}
 use Rattle.interval.proofs.marks.Interval.times.Goals as goal
 
-pub product-lu-requires : goal.product-lu-requires
-product-lu-requires c = (end (lower_bounded c.requires.0), end (upper_bounded c.requires.1))
-
 pub product-ul-requires : goal.product-ul-requires
 product-ul-requires c = (end (upper_bounded c.requires.0), end (lower_bounded c.requires.1))
 
