@@ -2,18 +2,18 @@
 use Rattle.std.proofs.Common.{◌≡◌, ℕ, ◌+◌, ◌<◌, Bool, true, false, ◌&&◌, List, [], ◌∷◌, length, get_or, drop, ◌≤ℤ◌, Ordering, Less, Equal, Greater, sym, refl, ap, ◌∙◌, true≢false, arith, rules}
 use Rattle.std.specs.Ordering.{is_lt}
 use Rattle.std.specs.List.{AllByRecursion}
-use Rattle.std.proofs.lemmas.List.{at_drop_more}
 use Rattle.std.proofs.lemmas.Int.{ints}
 use Rattle.std.proofs.lemmas.Bool.{and_parts, and_from}
 use Rattle.interval.specs.Interval.{Fits, Summable, fits}
 use Rattle.interval.specs.declared.marks.Interval.{Interval}
 use Rattle.interval.proofs.Sizes.{fits-sized, sized-fits}
 use Rattle.polynomial.specs.declared.term.Term.{Term}
-use Rattle.polynomial.specs.Reach.{joined}
+use Rattle.polynomial.specs.Reach.{joined, with_term}
+use Rattle.polynomial.specs.Terms.{all_fit}
 use Rattle.table.specs.Order.{by_degree, rank_monomials}
 use Rattle.table.specs.Table.{by_rank, Next, Ascending}
 use Rattle.table.proofs.Ascents.{entered-ascends}
-use Rattle.batch.specs.Drafts.{fitting, before, canonical, all_fit, with_term}
+use Rattle.batch.specs.Drafts.{fitting, before, canonical}
 
 -- what `fitting` tests
 pub record Fitting (t : Term) : Type 0 where
@@ -58,17 +58,6 @@ pub canonical_from : (ts : List Term) → Rises ts → AllByRecursion Fitting ts
 canonical_from [] a f = refl
 canonical_from (t ∷ ts) a f =
     and_from (fitting t && before t ts) (canonical ts) (and_from (fitting t) (before t ts) (fitting_from t f.0) (next_from t ts a.0)) (canonical_from ts a.1 f.1)
-
--- ---- the test of all coefficients, by what is left of the terms
-module _ (total : Bool) (ts : List Term) (i : ℕ) (so_far : all_fit (drop i ts) ≡ total) where
-  step : (d : Term) → i < length ts → (fits (get_or ts i d).coefficient && all_fit (drop (i + 1) ts)) ≡ total
-  step d h = sym (at_drop_more all_fit ts i d h) ∙ so_far
-
-  pub fails : (d : Term) → i < length ts → fits (get_or ts i d).coefficient ≡ false → false ≡ total
-  fails d h e = ap (λ b. b && all_fit (drop (i + 1) ts)) (sym e) ∙ step d h
-
-  pub goes_on : (d : Term) → i < length ts → fits (get_or ts i d).coefficient ≡ true → all_fit (drop (i + 1) ts) ≡ total
-  goes_on d h e = ap (λ b. b && all_fit (drop (i + 1) ts)) (sym e) ∙ step d h
 
 -- ---- a term that enters
 

@@ -1,11 +1,13 @@
 -- What a slice of 40 places holds once a term has entered the terms in its front.
-use Rattle.std.proofs.Common.{◌≡◌, ℕ, ◌-◌, ◌≤◌, Bool, true, false, leb, List, length, take, drop, Some, None, Ok, Err, sym, ap, ◌∙◌, subst, arith, length-append, length-drop, length-take, le-leb, leb-true}
+use Rattle.std.proofs.Common.{◌≡◌, ℕ, ◌-◌, ◌≤◌, Bool, true, false, cond, leb, List, length, take, drop, is_some, Some, None, Ok, Err, Option, sym, ap, ◌∙◌, subst, arith, length-append, length-drop, length-take, le-leb, leb-true}
 use native.Mathlib.Nat.{sub-zero}
 use lib.Seq.{take-append_seam}
 use Rattle.interval.specs.declared.reason.Reason.TheVariants.{TooManyMonomials, DoesNotFit}
 use Rattle.polynomial.specs.declared.term.Term.{Term}
 use Rattle.table.specs.Slice.{over}
-use Rattle.batch.specs.Drafts.{canonical, all_fit, with_term, new_count, admitted}
+use Rattle.polynomial.specs.Reach.{with_term}
+use Rattle.polynomial.specs.Terms.{all_fit, new_count}
+use Rattle.batch.specs.Drafts.{canonical, admitted}
 use Rattle.batch.proofs.Canonical.{Fitting, with_term_canonical}
 use Rattle.batch.proofs.Picks.{picked, unpicked}
 
@@ -15,14 +17,15 @@ pub record Front (E slice : List Term) (n : ℕ) : Type 0 where
   pub long : length slice ≡ 40
   pub front : take n slice ≡ E
 
-pub fronts : (old new E : List Term) (n : ℕ) → length old ≡ 40 → Some n ≡ new_count (length old) E → new ≡ over E old → Front E new n
-fronts old new E n h e o =
-    let p = picked n (length E) (leb (length E) (length old)) e in
+pub fronts : (old new E : List Term) (r : Option ℕ) (n : ℕ) → length old ≡ 40 → r ≡ Some n → r ≡ new_count (length old) E → new ≡ cond (is_some r) (over E old) old → Front E new n
+fronts old new E r n h some e o =
+    let p = picked n (length E) (leb (length E) (length old)) (sym some ∙ e) in
     let few : length E ≤ length old = leb-true (length E) (length old) p.0 in
+    let after : new ≡ over E old = rw some at o in
     record {
       few = omega (arith, p.1);
-      long = ap length o ∙ length-append E (drop (length E) old) ∙ omega (arith, length-drop (length E) old);
-      front = rw (o, p.1) (take-append_seam E (drop (length E) old));
+      long = ap length after ∙ length-append E (drop (length E) old) ∙ omega (arith, length-drop (length E) old);
+      front = rw (after, p.1) (take-append_seam E (drop (length E) old));
     }
 
 module _ (ts : List Term) (t : Term) where

@@ -1,6 +1,5 @@
 -- Without its terms of [0, 0] a canonical list is a polynomial whose coefficients fit.
 use Rattle.std.proofs.Common.{◌≡◌, ℕ, ◌-◌, ◌≤◌, true, not, List, [], ◌∷◌, ◌++◌, length, take, drop, replicate, refl, ap, ◌∙◌, append_assoc, arith, length-append, length-drop, length-take, rules}
-use native.Mathlib.Nat.{sub-zero}
 use lib.ListN.{length-replicate}
 use lib.Seq.{take-append_seam}
 use Rattle.std.specs.List.{AllByRecursion}
@@ -9,11 +8,11 @@ use Rattle.std.proofs.lemmas.List.Filters.{length-filter_both}
 use Rattle.interval.specs.Interval.{is_zero}
 use Rattle.polynomial.specs.declared.term.Term.{Term}
 use Rattle.polynomial.specs.Method.{FitTerm, Polynomial}
-use Rattle.polynomial.specs.Reach.{dropped}
+use Rattle.polynomial.specs.Reach.{dropped, zero_term}
 use Rattle.table.specs.Order.{by_degree}
 use Rattle.table.specs.Slice.{over, packed}
 use Rattle.table.proofs.Ascents.{drops_ascend}
-use Rattle.batch.specs.Drafts.{zero_term, canonical}
+use Rattle.batch.specs.Drafts.{canonical}
 use Rattle.batch.proofs.Canonical.{Fitting, ascends, fitted, canonical_from}
 use Rattle.batch.proofs.Fronts.{Front}
 
@@ -39,15 +38,9 @@ both : (ts : List Term) → AllByRecursion Fitting ts → AllByRecursion (λ t. 
 both [] f s = tt
 both (t ∷ ts) f s = (record { six = f.0.six; fit = f.0.fit; some = search rules }, both ts f.1 s.1)
 
-pub dropped_polynomial : (ts : List Term) → length (dropped ts) ≤ 40 → canonical ts ≡ true → Polynomial (dropped ts)
+pub dropped_polynomial : (ts : List Term) → length ts ≤ 40 → canonical ts ≡ true → Polynomial (dropped ts)
 dropped_polynomial ts few c = record {
-  few = few;
+  few = omega (arith, few, fewer ts);
   ascends = drops_ascend by_degree (λ t. t.monomial) _ ts (ascends ts c);
   fit = both (dropped ts) (all_kept_by _ Fitting ts (fitted ts c)) (kept_by_passes _ ts);
 }
-
--- the part [0..n] of a slice that begins with the reduced terms
-pub lent_polynomial : (ts slice : List Term) (n : ℕ) → n ≤ 40 → take n slice ≡ dropped ts → canonical ts ≡ true → Polynomial (take (n - 0) slice)
-lent_polynomial ts slice n few e c =
-    let same : take (n - 0) slice ≡ dropped ts = ap (λ m. take m slice) (sub-zero n) ∙ e in
-    rw same (dropped_polynomial ts (omega (arith, few, ap length e, length-take n slice)) c)

@@ -15,6 +15,7 @@ use Rattle.interval.proofs.Sizes.{fits-sized}
 use Rattle.interval.specs.Variable.{variable_of}
 use Rattle.polynomial.specs.declared.term.Term.{Term}
 use Rattle.polynomial.specs.Reach as reach
+use Rattle.polynomial.specs.Reach.{with_term}
 use Rattle.table.specs.Monomial.{Monomial}
 use Rattle.batch.specs.declared.desk.Desk.{Desk}
 use Rattle.batch.specs.declared.fault.Fault.{Fault}
@@ -23,7 +24,7 @@ use Rattle.batch.specs.declared.inputs.Input.{Input}
 use Rattle.batch.specs.declared.inputs.Inputs.{Inputs}
 use Rattle.batch.specs.declared.kind.KindChoice.{KindChoice}
 use Rattle.batch.specs.Desks.{View, view, names, marks_a_unit, with_kind, with_order, with_inputs, with_terms, taken, Took}
-use Rattle.batch.specs.Drafts.{with_term, admitted}
+use Rattle.batch.specs.Drafts.{admitted}
 use Rattle.batch.specs.Factors.{monomial_of}
 use Rattle.batch.specs.Faults.{Objection, mistaken, refused, objection}
 use Rattle.batch.specs.Inputs.{named, named_variables, names_of, place_of}
@@ -37,8 +38,8 @@ objected v s (Ok x) e b t = absurd b
 objected v s (Err f) e b t = (refl, inl (t ∙ ap (λ g. Err (objection g)) (sym b)))
 
 -- a hull that fits
-pub hull-fit : (S : ℕ) (x : Float) (i : Interval) → Some i ≡ hulled S x → Fits i
-hull-fit S x i e =
+pub hull_fit : (S : ℕ) (x : Float) (i : Interval) → Some i ≡ hulled S x → Fits i
+hull_fit S x i e =
     let p = picked i (hull S x) (float_is_finite x && fits (hull S x)) e in
     rw p.1 (fits-sized (hull_ordered S x) (and_parts (float_is_finite x) (fits (hull S x)) p.0).1)
 

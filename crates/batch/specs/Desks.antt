@@ -8,14 +8,14 @@ use Rattle.interval.specs.Reason.{and_then, require}
 use Rattle.interval.specs.Variable.{variable_of}
 use Rattle.polynomial.specs.declared.term.Term.{Term}
 use Rattle.polynomial.specs.Reach as reach
-use Rattle.polynomial.specs.Reach.{dropped}
+use Rattle.polynomial.specs.Reach.{with_term, dropped}
 use Rattle.batch.specs.declared.desk.Desk.{Desk}
 use Rattle.batch.specs.declared.fault.Mistake.TheVariants.{LateKind, NameTaken}
 use Rattle.batch.specs.declared.kind.KindChoice.{KindChoice}
 use Rattle.batch.specs.declared.kind.KindChoice.TheVariants.{Fixed}
 use Rattle.batch.specs.declared.method.MethodChoice.{MethodChoice}
 use Rattle.batch.specs.declared.method.MethodChoice.TheVariants.{Quadratic}
-use Rattle.batch.specs.Drafts.{with_term, admitted}
+use Rattle.batch.specs.Drafts.{admitted}
 use Rattle.batch.specs.DraftTerms.{terms_of}
 use Rattle.batch.specs.Factors.{monomial_of}
 use Rattle.batch.specs.Faults.{Objection, mistaken, refused, no_memory}

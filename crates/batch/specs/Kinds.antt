@@ -12,6 +12,12 @@ chosen_kind Whole = whole_kind
 chosen_kind Fixed = fixed_kind
 chosen_kind Interval = interval_kind
 
+-- the word that names a choice
+abbrev pub kind_text : KindChoice → List ℕ
+kind_text Whole = codes "whole"
+kind_text Fixed = codes "fixed"
+kind_text Interval = codes "interval"
+
 -- the choice that a word names
 abbrev pub kind_named : List ℕ → Option KindChoice
 kind_named w =

@@ -14,6 +14,12 @@ chosen_method Plain = plain_method
 chosen_method Quadratic = quadratic_method
 chosen_method Both = meet_method plain_method quadratic_method
 
+-- words that spell a choice
+abbrev pub method_text : MethodChoice → Text
+method_text Plain = codes "plain"
+method_text Quadratic = codes "quadratic"
+method_text Both = codes "meet plain quadratic"
+
 -- the leaves of two trees of meets together
 abbrev pub both : MethodChoice → MethodChoice → MethodChoice
 both Plain Plain = Plain

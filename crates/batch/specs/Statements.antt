@@ -1,6 +1,7 @@
 -- Which words say which statement. Assumes nothing.
 use Rattle.std.specs.Prelude.{ℕ, ◌^◌, Bool, true, false, cond, ◌&&◌, ◌||◌, List, [], ◌∷◌, map, Some, None, Ok, Err, codes, Option, Result, ◌==◌, nat_lt, Float}
 use Rattle.std.specs.Str.Parse.{digits_value, without_leading_plus}
+use Rattle.std.specs.List.{list_all}
 use Rattle.std.specs.Char.{is_ascii_alphabetic, is_ascii_alphanumeric}
 use Rattle.std.specs.Str.{bytes_eq, all_ascii_digits}
 use Rattle.interval.specs.Reason.{and_then}
@@ -21,8 +22,7 @@ abbrev pub name_byte : ℕ → Bool
 name_byte c = is_ascii_alphanumeric c || c == 95
 
 abbrev pub name_goes_on : Text → Bool
-name_goes_on [] = true
-name_goes_on (c ∷ cs) = name_byte c && name_goes_on cs
+name_goes_on cs = list_all name_byte cs
 
 -- a letter, then letters, digits and `_`
 abbrev pub is_name : Text → Bool

@@ -8,7 +8,7 @@ use interval::Scale;
 use std::fmt;
 
 // Sixteen places after the point suffice, since a unit has at most 2^16 marks.
-#[derive(Clone, Copy, Debug)]
+#[derive(Clone, Copy, Debug, PartialEq, Eq)]
 pub struct Decimal {
     pub negative: bool,
     pub whole: u64,
@@ -21,6 +21,7 @@ const SIXTEEN_PLACES: u64 = 10_000_000_000_000_000; // 10^16
 const FIRST_PLACE: u64 = 1_000_000_000_000_000; // 10^15
 
 impl Decimal {
+    #[tactic(auto, using(crate::proofs::Exactness::exact, crate::proofs::Exactness::small), unfolding(crate::specs::Decimals::decimal_of))]
     pub fn of_marks(marks: i64, scale: Scale) -> Decimal
         ensures value { result ≡ decimal_of scale.bits marks }
         ensures sign { result.negative ≡ int_lt marks (pos 0) }

@@ -41,26 +41,29 @@ impl Desk {
         }
     }
 
+    #[tactic(auto, using(crate::proofs::Taking::counted), unfolding(crate::specs::Desks::taken))]
     fn choose_kind<'a>(&mut self, choice: KindChoice) -> Result<(), Fault<'a>>
         ensures value { Took (view self.old) (kind_is choice) (read_as (λ x. x) result) (view self.new) }
     {
         if !self.inputs.all.is_empty() {
-            return Err(Fault::Mistaken(Mistake::LateKind, ""));
+            return Err(Mistake::LateKind.into());
         }
         self.kind = choice;
         Ok(())
     }
 
+    #[tactic(auto, unfolding(crate::specs::Desks::taken))]
     fn choose_order<'a>(&mut self, order: u64) -> Result<(), Fault<'a>>
         ensures value { Took (view self.old) (order_is order) (read_as (λ x. x) result) (view self.new) }
     {
         if order < 1 || order > 8 {
-            return Err(Fault::Refused(Reason::OrderOutOfRange, ""));
+            return Err(Reason::OrderOutOfRange.into());
         }
         self.order = order as u8;
         Ok(())
     }
 
+    #[tactic(auto, using(crate::proofs::Taking::counted, crate::proofs::Taking::names_are), unfolding(crate::specs::Desks::taken))]
     fn add_input<'a>(
         &mut self,
         heap: Global,
@@ -76,30 +79,26 @@ impl Desk {
         if self.inputs.all.len() >= 6 {
             return Err(Fault::Refused(Reason::VariablesOutOfRange, name));
         }
-        match Variable::new(low, high, self.kind.scale()) {
-            Ok(variable) => {
-                self.inputs.add(heap, name, variable)?;
-                Ok(())
-            }
-            Err(reason) => Err(Fault::Refused(reason, name)),
-        }
+        let variable = Variable::new(low, high, self.kind.scale()).map_err(|reason| Fault::Refused(
+            reason, name,
+        ))?;
+        self.inputs.add(heap, name, variable)?;
+        Ok(())
     }
 
+    #[tactic(auto, using(crate::proofs::Taking::hull_fit, crate::proofs::Taking::names_are), unfolding(crate::specs::Desks::taken))]
     fn add_term<'a>(&mut self, coefficient: f64, factors: &[Word<'a>]) -> Result<(), Fault<'a>>
         ensures value { Took (view self.old) (term_is coefficient (map token factors.now)) (read_as (λ x. x) result) (view self.new) }
     {
-        let Some(coefficient) = Interval::hull(coefficient, self.kind.scale()) else {
-            return Err(Fault::Refused(Reason::ConstantDoesNotFit, ""));
-        };
+        let coefficient = Interval::hull(coefficient, self.kind.scale()).ok_or(
+            Reason::ConstantDoesNotFit,
+        )?;
         let monomial = monomial_of(&self.inputs, self.order, factors)?;
-        let term = Term {
+        self.draft.enter(Term {
             monomial,
             coefficient,
-        };
-        match self.draft.enter(term) {
-            Ok(()) => Ok(()),
-            Err(reason) => Err(Fault::Refused(reason, "")),
-        }
+        })?;
+        Ok(())
     }
 
     fn close(&mut self)
@@ -110,19 +109,20 @@ impl Desk {
     }
 
     // Changes only what the statement assigns; an objection changes nothing.
+    #[tactic(auto, unfolding(crate::specs::Desks::taken))]
     pub fn take<'a>(&mut self, heap: Global, statement: Statement<'_, 'a>) -> Result<(), Fault<'a>>
         ensures value { Took (view self.old) (said statement.entry) (read_as (λ x. x) result) (view self.new) }
     {
         match statement {
-            Statement::Nothing => return Ok(()),
-            Statement::Kind(choice) => return self.choose_kind(choice),
+            Statement::Nothing => {}
+            Statement::Kind(choice) => self.choose_kind(choice)?,
             Statement::Method(choice) => self.method = choice,
-            Statement::Order(order) => return self.choose_order(order),
-            Statement::Input { name, low, high } => return self.add_input(heap, name, low, high),
+            Statement::Order(order) => self.choose_order(order)?,
+            Statement::Input { name, low, high } => self.add_input(heap, name, low, high)?,
             Statement::Term {
                 coefficient,
                 factors,
-            } => return self.add_term(coefficient, factors),
+            } => self.add_term(coefficient, factors)?,
             Statement::Range => self.close(),
         }
         Ok(())

@@ -20,26 +20,26 @@ struct Factor {
 }
 
 // What stands after `^` in a word.
+#[tactic(auto, unfolding(crate::specs::Factors::power_of))]
 fn read_power<'a>(text: &str, word: &'a str) -> Result<u8, Fault<'a>>
     ensures value { read_as (λ k. k) result ≡ power_of text.now word.now }
 {
-    let Some(power) = whole_number(text) else {
-        return Err(Fault::Mistaken(Mistake::NotAFactor, word));
-    };
+    let power = whole_number(text).ok_or(Fault::Mistaken(Mistake::NotAFactor, word))?;
     if power > 8 {
         return Err(Fault::Refused(Reason::ExponentTooLarge, word));
     }
     Ok(power as u8)
 }
 
+#[tactic(auto, unfolding(crate::specs::Factors::placed))]
 fn place<'a>(inputs: &Inputs, name: &'a str, power: u8) -> Result<Factor, Fault<'a>>
     ensures value { read_as factor_pair result ≡ placed (names_of inputs.now) name.now power }
     ensures bound { IfOk result (λ f. f.place < 6) }
 {
-    match inputs.place(name) {
-        Some(place) => Ok(Factor { place, power }),
-        None => Err(Fault::Mistaken(Mistake::NoInput, name)),
-    }
+    let place = inputs
+        .place(name)
+        .ok_or(Fault::Mistaken(Mistake::NoInput, name))?;
+    Ok(Factor { place, power })
 }
 
 // `NAME` or `NAME^K`.
@@ -57,6 +57,7 @@ fn read_factor<'a>(inputs: &Inputs, word: &'a str) -> Result<Factor, Fault<'a>>
 }
 
 // None where the degree would pass the order.
+#[tactic(auto, unfolding(crate::specs::Factors::raised))]
 fn times(monomial: Monomial, factor: Factor, order: u8) -> Option<Monomial>
     requires { factor.place < 6 }
     ensures value { result ≡ raised order monomial (factor_pair factor) }
@@ -80,10 +81,10 @@ pub fn monomial_of<'a>(
     let mut monomial = [0; 6];
     for word in factors {
         let factor = read_factor(inputs, word.text)?;
-        let Some(product) = times(monomial, factor, order) else {
-            return Err(Fault::Mistaken(Mistake::AboveOrder, word.text));
-        };
-        monomial = product;
+        monomial = times(monomial, factor, order).ok_or(Fault::Mistaken(
+            Mistake::AboveOrder,
+            word.text,
+        ))?;
     }
     Ok(monomial)
 }

@@ -1,13 +1,14 @@
 // What can be wrong with a line.
-ghost use Rattle.std.specs.Prelude.{◌≡◌, Some};
-ghost use Rattle.batch.specs.Faults.{mistake_words, fault_words, objection, no_memory};
+ghost use Rattle.std.specs.Prelude.{◌≡◌, [], Some};
+ghost use Rattle.batch.specs.Faults.{mistake_words, fault_words, objection, mistaken, refused, no_memory};
 
 use interval::Reason;
 use std::alloc::{AllocError, AllocFailed};
+use std::error::Error;
 use std::fmt;
 
 // What no rule of the sheet has a number for.
-#[derive(Clone, Copy, Debug)]
+#[derive(Clone, Copy, Debug, PartialEq, Eq)]
 pub enum Mistake {
     UnknownStatement,
     KindForm,
@@ -27,7 +28,7 @@ pub enum Mistake {
 }
 
 // With the word that it is about, or an empty one.
-#[derive(Clone, Copy, Debug)]
+#[derive(Clone, Copy, Debug, PartialEq, Eq)]
 pub enum Fault<'a> {
     Mistaken(Mistake, &'a str),
     Refused(Reason, &'a str),
@@ -57,28 +58,48 @@ impl Mistake {
     }
 }
 
+impl fmt::Display for Mistake {
+    ghost output = { λ x. Some (mistake_words x) };
+
+    fn fmt<W: fmt::Write>(&self, f: &mut fmt::Formatter<W>) -> fmt::Result {
+        f.write_str(self.words())
+    }
+}
+
 impl fmt::Display for Fault<'_> {
     ghost output = { λ x. Some (fault_words x) };
 
     fn fmt<W: fmt::Write>(&self, f: &mut fmt::Formatter<W>) -> fmt::Result {
         match *self {
-            Fault::Mistaken(mistake, "") => {
-                let words = mistake.words();
-                write!(f, "{words}")
-            }
-            Fault::Mistaken(mistake, word) => {
-                let words = mistake.words();
-                write!(f, "{words} {word}")
-            }
-            Fault::Refused(reason, "") => {
-                let number = reason.number();
-                write!(f, "refusal {number}: {reason}")
-            }
+            Fault::Mistaken(mistake, "") => write!(f, "{mistake}"),
+            Fault::Mistaken(mistake, word) => write!(f, "{mistake} {word}"),
+            Fault::Refused(reason, "") => write!(f, "refusal {}: {reason}", reason.number()),
             Fault::Refused(reason, word) => {
-                let number = reason.number();
-                write!(f, "refusal {number}: {reason}: {word}")
+                write!(f, "refusal {}: {reason}: {word}", reason.number())
             }
         }
+    }
+}
+
+impl Error for Mistake {}
+
+impl Error for Fault<'_> {}
+
+// Of no word.
+impl From<Mistake> for Fault<'_> {
+    ghost from_gives = { λ m r. objection r ≡ mistaken m [] };
+
+    fn from(what: Mistake) -> Self {
+        Fault::Mistaken(what, "")
+    }
+}
+
+// Of no word.
+impl From<Reason> for Fault<'_> {
+    ghost from_gives = { λ x r. objection r ≡ refused x [] };
+
+    fn from(why: Reason) -> Self {
+        Fault::Refused(why, "")
     }
 }
 
@@ -86,7 +107,7 @@ impl From<AllocError> for Fault<'_> {
     ghost from_gives = { λ _ r. objection r ≡ no_memory };
 
     fn from(_: AllocError) -> Self {
-        Fault::Mistaken(Mistake::OutOfMemory, "")
+        Mistake::OutOfMemory.into()
     }
 }
 
@@ -94,6 +115,6 @@ impl<T: Drop> From<AllocFailed<T>> for Fault<'_> {
     ghost from_gives = { λ _ r. objection r ≡ no_memory };
 
     fn from(_: AllocFailed<T>) -> Self {
-        Fault::Mistaken(Mistake::OutOfMemory, "")
+        Mistake::OutOfMemory.into()
     }
 }

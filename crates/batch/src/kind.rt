@@ -1,8 +1,9 @@
 // The kind of coefficient, chosen by name.
-ghost use Rattle.std.specs.Prelude.{◌≡◌};
-ghost use Rattle.batch.specs.Kinds.{chosen_kind, kind_named};
+ghost use Rattle.std.specs.Prelude.{◌≡◌, Some};
+ghost use Rattle.batch.specs.Kinds.{chosen_kind, kind_named, kind_text};
 
 use interval::{FixedKind, Interval, IntervalKind, Kind, Scale, WholeKind};
+use std::fmt;
 
 #[derive(Clone, Copy, Debug, PartialEq, Eq)]
 pub enum KindChoice {
@@ -32,7 +33,7 @@ impl Kind for KindChoice {
 }
 
 impl KindChoice {
-    // `whole`, `fixed` or `interval`.
+    // `whole`, `fixed` or `interval`. No FromStr: each caller has an error of its own, and would throw that one away.
     pub fn named(word: &str) -> Option<KindChoice>
         ensures value { result ≡ kind_named word.now }
     {
@@ -42,5 +43,18 @@ impl KindChoice {
             "interval" => Some(KindChoice::Interval),
             _ => None,
         }
+    }
+}
+
+// The word that names it.
+impl fmt::Display for KindChoice {
+    ghost output = { λ x. Some (kind_text x) };
+
+    fn fmt<W: fmt::Write>(&self, f: &mut fmt::Formatter<W>) -> fmt::Result {
+        f.write_str(match self {
+            KindChoice::Whole => "whole",
+            KindChoice::Fixed => "fixed",
+            KindChoice::Interval => "interval",
+        })
     }
 }

@@ -1,12 +1,13 @@
 // The ranging method, spelled in words.
-ghost use Rattle.std.specs.Prelude.{◌≡◌, ◌+◌, ◌^◌, ◌<◌, ◌≤◌, map, IfSome};
+ghost use Rattle.std.specs.Prelude.{◌≡◌, ◌+◌, ◌^◌, ◌<◌, ◌≤◌, Some, map, IfSome};
 ghost use Rattle.batch.specs.Words.{token};
-ghost use Rattle.batch.specs.Methods.{chosen_method, with_leaf, advanced, spelled_by};
+ghost use Rattle.batch.specs.Methods.{chosen_method, method_text, with_leaf, advanced, spelled_by};
 
 use crate::words::Word;
 use interval::Interval;
 use polynomial::Term;
 use ranging::{Meet, Plain, Quadratic, Ranging};
+use std::fmt;
 
 // A meet with itself changes nothing, so every tree of meets over plain and quadratic is one of these.
 #[derive(Clone, Copy, Debug, PartialEq, Eq)]
@@ -45,11 +46,9 @@ impl Scan {
         requires { 0 < self.wanted }
         ensures value { result ≡ with_leaf self leaf }
     {
-        let joined = match (self.leaves, leaf) {
-            (None, leaf) => leaf,
-            (Some(MethodChoice::Plain), MethodChoice::Plain) => MethodChoice::Plain,
-            (Some(MethodChoice::Quadratic), MethodChoice::Quadratic) => MethodChoice::Quadratic,
-            (Some(_), _) => MethodChoice::Both,
+        let joined = match self.leaves {
+            Some(leaves) if leaves != leaf => MethodChoice::Both,
+            _ => leaf,
         };
         Scan {
             wanted: self.wanted - 1,
@@ -58,6 +57,7 @@ impl Scan {
     }
 
     // None where no method is wanted, or the word is none of the three.
+    #[tactic(auto, unfolding(crate::specs::Methods::advanced))]
     fn read(self, word: &str) -> Option<Scan>
         requires { self.wanted + 1 < 2 ^ 64 }
         ensures value { result ≡ advanced self word.now }
@@ -71,7 +71,7 @@ impl Scan {
             "quadratic" => Some(self.with_leaf(MethodChoice::Quadratic)),
             "meet" => Some(Scan {
                 wanted: self.wanted + 1,
-                leaves: self.leaves,
+                ..self
             }),
             _ => None,
         }
@@ -80,6 +80,7 @@ impl Scan {
 
 impl MethodChoice {
     // `plain`, `quadratic`, or `meet` and two methods.
+    #[tactic(auto, unfolding(crate::specs::Methods::spelled_by))]
     pub fn spelled(words: &[Word<'_>]) -> Option<MethodChoice>
         ensures value { result ≡ spelled_by (map token words.now) }
     {
@@ -88,11 +89,21 @@ impl MethodChoice {
             leaves: None,
         };
         for word in words {
-            match scan.read(word.text) {
-                Some(next) => scan = next,
-                None => return None,
-            }
+            scan = scan.read(word.text)?;
         }
         if scan.wanted == 0 { scan.leaves } else { None }
+    }
+}
+
+// Words that spell it.
+impl fmt::Display for MethodChoice {
+    ghost output = { λ x. Some (method_text x) };
+
+    fn fmt<W: fmt::Write>(&self, f: &mut fmt::Formatter<W>) -> fmt::Result {
+        f.write_str(match self {
+            MethodChoice::Plain => "plain",
+            MethodChoice::Quadratic => "quadratic",
+            MethodChoice::Both => "meet plain quadratic",
+        })
     }
 }

@@ -30,11 +30,8 @@ impl Inputs {
         ensures value { result ≡ place_of (names_of self.now) name.now }
         ensures bound { IfSome result (λ i. i < 6) }
     {
-        for (place, input) in self.all.iter().enumerate() {
-            if input.name.as_str() == name {
-                return Some(place);
-            }
-        }
-        None
+        self.all
+            .iter()
+            .position(|input| input.name.as_str() == name)
     }
 }

@@ -8,9 +8,9 @@ use crate::kind::KindChoice;
 use crate::method::MethodChoice;
 use crate::words::Word;
 
-#[derive(Clone, Copy)]
+#[derive(Clone, Copy, Debug, PartialEq)]
 pub enum Statement<'w, 'a> {
-    // a line with no word
+    // a line with no word: a statement too, since the desk takes each line alike
     Nothing,
     Kind(KindChoice),
     Method(MethodChoice),
@@ -37,12 +37,7 @@ fn is_name_byte(byte: u8) -> bool
 fn name_goes_on(bytes: &[u8]) -> bool
     ensures value { result ≡ name_goes_on bytes.now }
 {
-    for byte in bytes {
-        if !is_name_byte(*byte) {
-            return false;
-        }
-    }
-    true
+    bytes.iter().all(|byte| is_name_byte(*byte))
 }
 
 // A letter, then letters, digits and `_`.
@@ -65,10 +60,8 @@ pub fn whole_number(text: &str) -> Option<u64>
 fn number<'a>(word: &Word<'a>) -> Result<f64, Fault<'a>>
     ensures value { read_as (λ x. x) result ≡ number_said (token word.now) }
 {
-    match word.number {
-        Some(x) => Ok(x),
-        None => Err(Fault::Mistaken(Mistake::NotANumber, word.text)),
-    }
+    word.number
+        .ok_or(Fault::Mistaken(Mistake::NotANumber, word.text))
 }
 
 // The one word, where there is just one.
@@ -76,7 +69,7 @@ fn sole<'a>(words: &[Word<'a>], mistake: Mistake) -> Result<Word<'a>, Fault<'a>>
     ensures value { read_as token result ≡ sole_of mistake (map token words.now) }
 {
     let [word] = words else {
-        return Err(Fault::Mistaken(mistake, ""));
+        return Err(mistake.into());
     };
     Ok(*word)
 }
@@ -85,36 +78,30 @@ fn kind<'w, 'a>(words: &'w [Word<'a>]) -> Result<Statement<'w, 'a>, Fault<'a>>
     ensures value { read_as said result ≡ kind_said (map token words.now) }
 {
     let word = sole(words, Mistake::KindForm)?;
-    match KindChoice::named(word.text) {
-        Some(kind) => Ok(Statement::Kind(kind)),
-        None => Err(Fault::Mistaken(Mistake::KindForm, "")),
-    }
+    let kind = KindChoice::named(word.text).ok_or(Mistake::KindForm)?;
+    Ok(Statement::Kind(kind))
 }
 
 fn method<'w, 'a>(words: &'w [Word<'a>]) -> Result<Statement<'w, 'a>, Fault<'a>>
     ensures value { read_as said result ≡ method_said (map token words.now) }
 {
-    match MethodChoice::spelled(words) {
-        Some(method) => Ok(Statement::Method(method)),
-        None => Err(Fault::Mistaken(Mistake::MethodForm, "")),
-    }
+    let method = MethodChoice::spelled(words).ok_or(Mistake::MethodForm)?;
+    Ok(Statement::Method(method))
 }
 
 fn order<'w, 'a>(words: &'w [Word<'a>]) -> Result<Statement<'w, 'a>, Fault<'a>>
     ensures value { read_as said result ≡ order_said (map token words.now) }
 {
     let word = sole(words, Mistake::OrderForm)?;
-    match whole_number(word.text) {
-        Some(order) => Ok(Statement::Order(order)),
-        None => Err(Fault::Mistaken(Mistake::OrderForm, "")),
-    }
+    let order = whole_number(word.text).ok_or(Mistake::OrderForm)?;
+    Ok(Statement::Order(order))
 }
 
 fn input<'w, 'a>(words: &'w [Word<'a>]) -> Result<Statement<'w, 'a>, Fault<'a>>
     ensures value { read_as said result ≡ input_said (map token words.now) }
 {
     let [name, low, high] = words else {
-        return Err(Fault::Mistaken(Mistake::InputForm, ""));
+        return Err(Mistake::InputForm.into());
     };
     let name = name.text;
     if !is_name(name) {
@@ -129,7 +116,7 @@ fn term<'w, 'a>(words: &'w [Word<'a>]) -> Result<Statement<'w, 'a>, Fault<'a>>
     ensures value { read_as said result ≡ term_said (map token words.now) }
 {
     let [first, factors @ ..] = words else {
-        return Err(Fault::Mistaken(Mistake::TermForm, ""));
+        return Err(Mistake::TermForm.into());
     };
     let coefficient = number(first)?;
     Ok(Statement::Term {
@@ -144,11 +131,12 @@ fn range<'w, 'a>(words: &'w [Word<'a>]) -> Result<Statement<'w, 'a>, Fault<'a>>
     if words.is_empty() {
         Ok(Statement::Range)
     } else {
-        Err(Fault::Mistaken(Mistake::RangeForm, ""))
+        Err(Mistake::RangeForm.into())
     }
 }
 
 // The first word says which statement it is.
+#[tactic(auto, unfolding(crate::specs::Statements::said_from))]
 pub fn read_statement<'w, 'a>(words: &'w [Word<'a>]) -> Result<Statement<'w, 'a>, Fault<'a>>
     ensures value { read_as said result ≡ said_by (map token words.now) }
 {

@@ -6,7 +6,7 @@ ghost use Rattle.batch.specs.Words.{token, Reads, words, uncommented};
 use std::alloc::{AllocError, Global};
 
 // A word, and the decimal number that it is, if it is one.
-#[derive(Clone, Copy, Debug)]
+#[derive(Clone, Copy, Debug, PartialEq)]
 pub struct Word<'a> {
     pub text: &'a str,
     pub number: Option<f64>,

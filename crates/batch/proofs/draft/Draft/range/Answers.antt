@@ -1,9 +1,9 @@
+use Rattle.std.proofs.Common.{arith, length-take}
 use Rattle.batch.specs.DraftTerms.{terms_of}
-use Rattle.batch.proofs.Reductions.{lent_polynomial}
+use Rattle.batch.proofs.Reductions.{dropped_polynomial}
 use Rattle.batch.proofs.draft.Draft.range.Goals as goal
 
 pub range-requires : goal.range-requires
 range-requires g c =
     let old = c.args.self.now in
-    let new = c.reduced-polynomial.result in
-    lent_polynomial (terms_of old) new.terms new.count new.few c.reduced-polynomial.ensures.value old.sound
+    rw (c.as_slice.ensures.value, c.reduced.ensures.value) (dropped_polynomial (terms_of old) (omega (arith, length-take old.count old.terms, old.few)) old.sound)

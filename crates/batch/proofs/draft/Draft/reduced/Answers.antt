@@ -5,10 +5,10 @@ use Rattle.batch.proofs.draft.Draft.reduced.Goals as goal
 pub invariant_of-result : goal.invariant_of-result
 invariant_of-result c =
     let old = c.args.self.now in
-    let f = dropped_front old.terms _ old.count _ old.long old.few c.swept-count.ensures.value c.swept-count.ensures.after in
+    let f = dropped_front old.terms _ old.count _ old.long old.few c.drop_zeros-count.ensures.value c.drop_zeros-count.ensures.after in
     record { long = f.long; few = f.few; sound = rw f.front (dropped-canonical (terms_of old) old.sound) }
 
 pub returns : goal.returns
 returns c =
     let old = c.args.self.now in
-    record { value = (dropped_front old.terms _ old.count _ old.long old.few c.swept-count.ensures.value c.swept-count.ensures.after).front }
+    record { value = (dropped_front old.terms _ old.count _ old.long old.few c.drop_zeros-count.ensures.value c.drop_zeros-count.ensures.after).front }

@@ -1,16 +1,14 @@
-use Rattle.std.proofs.Common.{rules}
-use Rattle.batch.proofs.Places.{found, passed, missed}
+use Rattle.std.proofs.Common.{◌∙◌, vec_items, rules}
+use Rattle.std.proofs.lemmas.Iterator.{YieldsList-from_slice}
+use Rattle.std.proofs.lemmas.Iterator.Adapters.{position_from-zero}
+use Rattle.std.proofs.lemmas.Iterator.Search.{position_from_yields_List}
+use borrow.Author.Tests.{tests}
+use Rattle.batch.proofs.Places.{is_named, place_found}
 use Rattle.batch.proofs.inputs.Inputs.place.Goals as goal
 
-pub loop-place-init : goal.loop-place-init
-loop-place-init c = search rules
-
-pub returns-then-eq : goal.returns-then-eq
-returns-then-eq c =
-    record { value = found _ _ _ _ c.loop-place.invariant c.input-item.result c.loop-place-test.true c.input-item.is (search rules); bound = search rules }
-
-pub loop-place-preserved : goal.loop-place-preserved
-loop-place-preserved c = passed _ _ _ _ c.loop-place.invariant c.input-item.result c.loop-place-test.true c.input-item.is (search rules)
-
-pub returns : goal.returns
-returns c = record { value = missed _ _ _ _ c.loop-place.invariant c.loop-place-test.false; bound = tt }
+pub returns-clause-value : goal.returns-clause-value
+returns-clause-value c =
+    let inputs = vec_items c.args.self.now.all in
+    let name = c.args.name.now in
+    position_from_yields_List (is_named name) _ _ _ c.position.ensures.ran (YieldsList-from_slice inputs (search rules)) (λ x b q k. search (rules, tests))
+    ∙ position_from-zero (is_named name) inputs ∙ place_found name 0 inputs
