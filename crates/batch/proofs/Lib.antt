@@ -1,6 +1,5 @@
 mod Cuts
 mod Wording
-mod Spelling
 mod Exits
 mod Exactness
 mod Figures
@@ -12,4 +11,3 @@ mod Places
 mod Factoring
 mod Taking
 mod Numerals
-mod Shapes

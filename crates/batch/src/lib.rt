@@ -12,6 +12,8 @@ mod kind; // the kind of coefficient, chosen by name
 mod method; // the ranging method, spelled in words
 mod naming; // inputs by their names
 mod statement; // a statement, read from words
+#[cfg(test)]
+mod tests; // figures, row by row
 mod words; // the words of a line
 
 pub use decimal::Decimal;

@@ -1,6 +1,6 @@
 use Rattle.std.proofs.Common.{sym, ◌∙◌, rules}
 use Rattle.batch.proofs.Canonical.{fitted, joinable}
-use Rattle.batch.proofs.Fronts.{fronts, no_room, unfit, taken, sound}
+use Rattle.batch.proofs.Fronts.{fronts, unfit, taken, sound}
 use Rattle.batch.proofs.draft.Draft.enter.Goals as goal
 
 pub enter-requires-clause-joins : goal.enter-requires-clause-joins
