@@ -1,5 +1,5 @@
 // What a call answers, and how it is written.
-use interval::Interval;
+use interval::{Interval, Reason};
 use std::cmp::Ordering;
 use std::fmt;
 
@@ -9,45 +9,43 @@ pub enum Answer {
     Ends(Interval),
     // accepted, with two numbers
     Accepted(i64, i64),
-    Refused(u8),
+    Refused(Reason),
     Unfit,
     NotFinite,
     // a coefficient and a leftover
     Parts(Interval, Interval),
     Rank(Ordering),
-    // a place, and whether the key stands there
-    Place(usize, bool),
+    // the place where the key stands, else where it would
+    Place(Result<usize, usize>),
 }
 
 impl fmt::Display for Answer {
     fn fmt<W: fmt::Write>(&self, f: &mut fmt::Formatter<W>) -> fmt::Result {
         match *self {
-            Answer::Ends(i) => write_ends(i, f),
+            Answer::Ends(i) => write!(f, "{}", Ends(i)),
             Answer::Accepted(a, b) => write!(f, "ok {a} {b}"),
-            Answer::Refused(number) => write!(f, "refused {number}"),
+            Answer::Refused(reason) => write!(f, "refused {}", reason.number()),
             Answer::Unfit => write!(f, "unfit"),
             Answer::NotFinite => write!(f, "notfinite"),
-            Answer::Parts(coefficient, leftover) => write_parts(coefficient, leftover, f),
+            Answer::Parts(coefficient, leftover) => {
+                write!(f, "{} {}", Ends(coefficient), Ends(leftover))
+            }
             Answer::Rank(rank) => write!(f, "{}", name(rank)),
-            Answer::Place(place, found) => write!(f, "{place} {}", u8::from(found)),
+            Answer::Place(Ok(place)) => write!(f, "{place} 1"),
+            Answer::Place(Err(place)) => write!(f, "{place} 0"),
         }
     }
 }
 
-fn write_ends<W: fmt::Write>(i: Interval, f: &mut fmt::Formatter<W>) -> fmt::Result {
-    let lower = i.lower;
-    let upper = i.upper;
-    write!(f, "{lower} {upper}")
-}
+// The lower end, then the upper.
+#[derive(Clone, Copy)]
+struct Ends(Interval);
 
-fn write_parts<W: fmt::Write>(
-    coefficient: Interval,
-    leftover: Interval,
-    f: &mut fmt::Formatter<W>,
-) -> fmt::Result {
-    write_ends(coefficient, f)?;
-    write!(f, " ")?;
-    write_ends(leftover, f)
+impl fmt::Display for Ends {
+    fn fmt<W: fmt::Write>(&self, f: &mut fmt::Formatter<W>) -> fmt::Result {
+        let Interval { lower, upper } = self.0;
+        write!(f, "{lower} {upper}")
+    }
 }
 
 fn name(rank: Ordering) -> &'static str {

@@ -12,14 +12,15 @@ use table::TotalOrder;
 
 pub fn answer(heap: Global, call: &str) -> Result<Answer, Fault> {
     let (name, arguments) = call.split_once(' ').ok_or(Fault::Unreadable)?;
+    let words = Words::from(arguments);
     match name {
-        "hull" => hull(Words::of(arguments)),
-        "compare" => compare_reals(Words::of(arguments)),
-        "variable" => variable(Words::of(arguments)),
-        "times" => times(Words::of(arguments)),
-        "split" => split(Words::of(arguments)),
-        "reach" => reach_under(Words::of(arguments)),
-        "order" => order(Words::of(arguments)),
+        "hull" => hull(words),
+        "compare" => compare_reals(words),
+        "variable" => variable(words),
+        "times" => times(words),
+        "split" => split(words),
+        "reach" => reach_under(words),
+        "order" => order(words),
         "ranging" => range_of(heap, arguments),
         "search" => search_row(heap, arguments),
         _ => Err(Fault::Unreadable),
@@ -52,7 +53,7 @@ fn variable(mut words: Words) -> Result<Answer, Fault> {
     words.end()?;
     Ok(match Variable::new(lower, upper, scale) {
         Ok(v) => Answer::Accepted(v.centre, v.half),
-        Err(reason) => Answer::Refused(reason.number()),
+        Err(reason) => Answer::Refused(reason),
     })
 }
 

@@ -1,9 +1,10 @@
 // Why a line gets no answer.
 use std::alloc::{AllocError, AllocFailed};
+use std::error::Error;
 use std::fmt;
 use std::num::ParseIntError;
 
-#[derive(Clone, Copy, Debug)]
+#[derive(Clone, Copy, Debug, PartialEq, Eq)]
 pub enum Fault {
     // the line says no call
     Unreadable,
@@ -18,6 +19,8 @@ impl fmt::Display for Fault {
         }
     }
 }
+
+impl Error for Fault {}
 
 impl From<ParseIntError> for Fault {
     fn from(_e: ParseIntError) -> Fault {

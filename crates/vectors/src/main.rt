@@ -9,7 +9,6 @@ mod ranges; // a method's range of a polynomial
 mod rows; // a search in a row of keys
 mod words; // the words of a call, and what each says
 
-use anyhow::anyhow;
 use fault::Fault;
 use std::io::{BufRead, BufReader};
 
@@ -31,8 +30,8 @@ fn write_answered(rt: &HostRuntime, line: &str) -> anyhow::Result<()> {
     };
     match calls::answer(rt.alloc(), call) {
         Ok(answer) => println!(rt; "{call} = {answer}")?,
-        Err(Fault::Unreadable) => println!(rt; "{call} = unreadable")?,
-        Err(Fault::NoMemory) => return Err(anyhow!("out of memory")),
+        Err(Fault::NoMemory) => return Err(Fault::NoMemory.into()),
+        Err(fault) => println!(rt; "{call} = {fault}")?,
     }
     Ok(())
 }

@@ -8,7 +8,6 @@ ghost use Rattle.table.specs.Table.{Ascending};
 
 use interval::Interval;
 use polynomial::Term;
-use std::cmp::Ordering;
 use table::TotalOrder;
 
 // The lower end is not above the upper, and both fit.
@@ -28,23 +27,13 @@ pub fn is_polynomial(terms: &[Term]) -> bool
 fn ascend(terms: &[Term]) -> bool
     ensures value { Decides result (Ascending by_degree (λ t. t.monomial) terms.now) }
 {
-    for i in 1..terms.len() {
-        if terms[i - 1].monomial.compare(terms[i].monomial) != Ordering::Less {
-            return false;
-        }
-    }
-    true
+    terms.is_sorted_by(|t, u| t.monomial.compare(u.monomial).is_lt())
 }
 
 fn all_fit(terms: &[Term]) -> bool
     ensures value { Decides result (AllByRecursion FitTerm terms.now) }
 {
-    for term in terms {
-        if !is_fit_term(term) {
-            return false;
-        }
-    }
-    true
+    terms.iter().all(is_fit_term)
 }
 
 fn is_fit_term(term: &Term) -> bool

@@ -44,5 +44,9 @@ pub fn search_row(heap: Global, arguments: &str) -> Result<Answer, Fault> {
         keys.push(Key(word.parse::<u8>()?))?;
     }
     let found = search(keys.as_slice(), key);
-    Ok(Answer::Place(found.place, found.found))
+    Ok(Answer::Place(if found.found {
+        Ok(found.place)
+    } else {
+        Err(found.place)
+    }))
 }

@@ -14,13 +14,15 @@ pub struct Words<'a> {
     rest: SplitWhitespace<'a>,
 }
 
-impl<'a> Words<'a> {
-    pub fn of(text: &'a str) -> Words<'a> {
+impl<'a> From<&'a str> for Words<'a> {
+    fn from(text: &'a str) -> Words<'a> {
         Words {
             rest: text.split_whitespace(),
         }
     }
+}
 
+impl<'a> Words<'a> {
     pub fn word(&mut self) -> Result<&'a str, Fault> {
         self.rest.next().ok_or(Fault::Unreadable)
     }
