@@ -1,0 +1,53 @@
+// Why a batch gets no answer.
+use batch::Fault;
+use std::alloc::{AllocError, AllocFailed, Global};
+use std::{fmt, io};
+
+#[derive(Drop)]
+pub enum Failure {
+    // it cannot be read
+    Unread(anyhow::Error),
+    // a line's number, and what is wrong with the line
+    Line(usize, String),
+    OutOfMemory,
+    // what is to be printed cannot be
+    Unwritable,
+}
+
+impl Failure {
+    pub fn of_line(heap: Global, number: usize, fault: Fault<'_>) -> Failure {
+        match format!(in heap; "{fault}") {
+            Ok(words) => Failure::Line(number, words),
+            Err(error) => error.into(),
+        }
+    }
+}
+
+impl fmt::Display for Failure {
+    fn fmt<W: fmt::Write>(&self, f: &mut fmt::Formatter<W>) -> fmt::Result {
+        match self {
+            Failure::Unread(error) => write!(f, "the batch cannot be read: {error}"),
+            Failure::Line(number, words) => write!(f, "line {number}: {words}"),
+            Failure::OutOfMemory => write!(f, "no memory is left"),
+            Failure::Unwritable => write!(f, "the output cannot be written"),
+        }
+    }
+}
+
+impl From<AllocError> for Failure {
+    fn from(_: AllocError) -> Self {
+        Failure::OutOfMemory
+    }
+}
+
+impl<T: Drop> From<AllocFailed<T>> for Failure {
+    fn from(_: AllocFailed<T>) -> Self {
+        Failure::OutOfMemory
+    }
+}
+
+impl From<io::Error> for Failure {
+    fn from(_: io::Error) -> Self {
+        Failure::Unwritable
+    }
+}
