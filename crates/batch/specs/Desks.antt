@@ -1,5 +1,6 @@
 -- What a desk holds, and what each statement changes. Assumes nothing.
 use Rattle.std.specs.Prelude.{◌≡◌, ℕ, Bool, cond, ◌&&◌, ◌⊎◌, List, [], ◌∷◌, ◌++◌, map, length, is_some, Ok, Err, Result, ◌==◌, nat_le, nat_lt, Float}
+use Rattle.std.specs.Option.{ok_or}
 use Rattle.interval.specs.declared.reason.Reason.{Reason}
 use Rattle.interval.specs.declared.reason.Reason.TheVariants.{OrderOutOfRange, VariablesOutOfRange, ConstantDoesNotFit}
 use Rattle.interval.specs.declared.variable.Variable.{Variable}
@@ -21,7 +22,7 @@ use Rattle.batch.specs.Factors.{monomial_of}
 use Rattle.batch.specs.Faults.{Objection, mistaken, refused, no_memory}
 use Rattle.batch.specs.Inputs.{named_variables, place_of}
 use Rattle.batch.specs.Kinds.{chosen_kind}
-use Rattle.batch.specs.Statements.{Said, silence, kind_is, method_is, order_is, input_is, term_is, range_asked, or_else}
+use Rattle.batch.specs.Statements.{Said, silence, kind_is, method_is, order_is, input_is, term_is, range_asked}
 use Rattle.batch.specs.Words.{Text, Token}
 
 -- what a desk holds
@@ -91,7 +92,7 @@ input_taken name low high v =
 -- a term's coefficient is the hull of its number, and it enters the table
 abbrev pub term_taken : Float → List Token → View → Result View Objection
 term_taken x factors v =
-    and_then (or_else (hulled (marks_a_unit v) x) (refused ConstantDoesNotFit [])) (λ i.
+    and_then (ok_or (hulled (marks_a_unit v) x) (refused ConstantDoesNotFit [])) (λ i.
     and_then (monomial_of (names v) v.degrees factors) (λ m.
     and_then (refused_at [] (admitted v.terms (reach.term m i))) (λ _. Ok (with_terms (with_term v.terms (reach.term m i)) v))))
 

@@ -1,14 +1,14 @@
 -- The monomial that factors spell. Assumes nothing.
 use Rattle.std.specs.Prelude.{ℕ, ◌+◌, cond, List, [], ◌∷◌, Some, None, Ok, Err, Option, Result, ◌==◌, nat_le, slice_index, slice_set}
-use Rattle.std.specs.Option.{option_map}
+use Rattle.std.specs.Option.{ok_or, option_map}
 use Rattle.interval.specs.declared.reason.Reason.TheVariants.{ExponentTooLarge}
 use Rattle.interval.specs.Reason.{and_then}
 use Rattle.table.specs.Monomial.{Monomial, constant_monomial, degree}
-use Rattle.batch.specs.declared.factors.Factor.{Factor}
+use Rattle.batch.specs.declared.factor.Factor.{Factor}
 use Rattle.batch.specs.declared.fault.Mistake.TheVariants.{NotAFactor, NoInput, AboveOrder}
 use Rattle.batch.specs.Faults.{Objection, mistaken, refused}
 use Rattle.batch.specs.Inputs.{place_of}
-use Rattle.batch.specs.Statements.{whole_number, or_else}
+use Rattle.batch.specs.Statements.{whole_number}
 use Rattle.batch.specs.Words.{Text, Token}
 
 -- a place and a power
@@ -22,11 +22,11 @@ cut_at_caret (c ∷ cs) = cond (c == 94) (Some ([], cs)) (option_map (λ p. (c �
 
 -- an exponent from 0 to 8
 unfoldable pub power_of : Text → Text → Result ℕ Objection
-power_of t word = and_then (or_else (whole_number t) (mistaken NotAFactor word)) (λ k. cond (nat_le k 8) (Ok k) (Err (refused ExponentTooLarge word)))
+power_of t word = and_then (ok_or (whole_number t) (mistaken NotAFactor word)) (λ k. cond (nat_le k 8) (Ok k) (Err (refused ExponentTooLarge word)))
 
 -- the place of a name, beside a power
 unfoldable pub placed : List Text → Text → ℕ → Result (ℕ × ℕ) Objection
-placed names name k = and_then (or_else (place_of names name) (mistaken NoInput name)) (λ i. Ok (i, k))
+placed names name k = and_then (ok_or (place_of names name) (mistaken NoInput name)) (λ i. Ok (i, k))
 
 abbrev pub factored : List Text → Text → Option (Text × Text) → Result (ℕ × ℕ) Objection
 factored names word None = placed names word 1
@@ -44,7 +44,7 @@ module _ (names : List Text) (order : ℕ) where
   -- the factors multiply one after the other
   abbrev pub monomial_from : Monomial → List Token → Result Monomial Objection
   monomial_from m [] = Ok m
-  monomial_from m (w ∷ ws) = and_then (factor_of names w.text) (λ f. and_then (or_else (raised order m f) (mistaken AboveOrder w.text)) (λ n. monomial_from n ws))
+  monomial_from m (w ∷ ws) = and_then (factor_of names w.text) (λ f. and_then (ok_or (raised order m f) (mistaken AboveOrder w.text)) (λ n. monomial_from n ws))
 
   abbrev pub monomial_of : List Token → Result Monomial Objection
   monomial_of ws = monomial_from constant_monomial ws

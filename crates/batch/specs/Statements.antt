@@ -1,5 +1,6 @@
 -- Which words say which statement. Assumes nothing.
 use Rattle.std.specs.Prelude.{ℕ, ◌^◌, Bool, false, cond, ◌&&◌, ◌||◌, List, [], ◌∷◌, map, Some, None, Ok, Err, codes, Option, Result, ◌==◌, nat_lt, Float}
+use Rattle.std.specs.Option.{ok_or}
 use Rattle.std.specs.Str.Parse.{digits_value, without_leading_plus}
 use Rattle.std.specs.List.{list_all}
 use Rattle.std.specs.Char.{is_ascii_alphabetic, is_ascii_alphanumeric}
@@ -59,13 +60,8 @@ abbrev pub read_as : {A B : Type 0} → (A → B) → Result A Fault → Result 
 read_as view (Ok x) = Ok (view x)
 read_as view (Err f) = Err (objection f)
 
--- what is there, or the objection
-abbrev pub or_else : {A : Type 0} → Option A → Objection → Result A Objection
-or_else None o = Err o
-or_else (Some x) o = Ok x
-
 abbrev pub number_said : Token → Result Float Objection
-number_said w = or_else w.number (mistaken NotANumber w.text)
+number_said w = ok_or w.number (mistaken NotANumber w.text)
 
 -- the one word, where there is just one
 abbrev pub sole_of : Mistake → List Token → Result Token Objection
@@ -75,13 +71,13 @@ sole_of m (w ∷ v ∷ ws) = Err (mistaken m [])
 
 -- what follows `kind`, `method`, `order`, `input`, `term` and `range`
 abbrev pub kind_said : List Token → Result Said Objection
-kind_said ws = and_then (sole_of KindForm ws) (λ w. and_then (or_else (kind_named w.text) (mistaken KindForm [])) (λ k. Ok (kind_is k)))
+kind_said ws = and_then (sole_of KindForm ws) (λ w. and_then (ok_or (kind_named w.text) (mistaken KindForm [])) (λ k. Ok (kind_is k)))
 
 abbrev pub method_said : List Token → Result Said Objection
-method_said ws = and_then (or_else (spelled_by ws) (mistaken MethodForm [])) (λ m. Ok (method_is m))
+method_said ws = and_then (ok_or (spelled_by ws) (mistaken MethodForm [])) (λ m. Ok (method_is m))
 
 abbrev pub order_said : List Token → Result Said Objection
-order_said ws = and_then (sole_of OrderForm ws) (λ w. and_then (or_else (whole_number w.text) (mistaken OrderForm [])) (λ n. Ok (order_is n)))
+order_said ws = and_then (sole_of OrderForm ws) (λ w. and_then (ok_or (whole_number w.text) (mistaken OrderForm [])) (λ n. Ok (order_is n)))
 
 abbrev pub name_said : Token → Result Text Objection
 name_said w = cond (is_name w.text) (Ok w.text) (Err (mistaken NotAName w.text))

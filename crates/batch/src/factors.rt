@@ -1,23 +1,17 @@
 // The monomial that factors spell.
-ghost use Rattle.std.specs.Prelude.{◌≡◌, ◌<◌, map, IfOk};
+ghost use Rattle.std.specs.Prelude.{◌≡◌, map};
 ghost use Rattle.batch.specs.Factors.{factor_pair, power_of, placed, factor_of, raised, monomial_of};
 ghost use Rattle.batch.specs.Inputs.{names_of};
 ghost use Rattle.batch.specs.Statements.{read_as};
 ghost use Rattle.batch.specs.Words.{token};
 
+use crate::factor::Factor;
 use crate::fault::{Fault, Mistake};
 use crate::inputs::Inputs;
 use crate::statement::whole_number;
 use crate::words::Word;
 use interval::Reason;
 use table::{Monomial, degree};
-
-// The place of an input, and the power of its unit coordinate.
-#[derive(Clone, Copy)]
-struct Factor {
-    place: usize,
-    power: u8,
-}
 
 // What stands after `^` in a word.
 #[tactic(auto, unfolding(crate::specs::Factors::power_of))]
@@ -34,7 +28,6 @@ fn read_power<'a>(text: &str, word: &'a str) -> Result<u8, Fault<'a>>
 #[tactic(auto, unfolding(crate::specs::Factors::placed))]
 fn place<'a>(inputs: &Inputs, name: &'a str, power: u8) -> Result<Factor, Fault<'a>>
     ensures value { read_as factor_pair result ≡ placed (names_of inputs.now) name.now power }
-    ensures bound { IfOk result (λ f. f.place < 6) }
 {
     let place = inputs
         .place(name)
@@ -45,7 +38,6 @@ fn place<'a>(inputs: &Inputs, name: &'a str, power: u8) -> Result<Factor, Fault<
 // `NAME` or `NAME^K`.
 fn read_factor<'a>(inputs: &Inputs, word: &'a str) -> Result<Factor, Fault<'a>>
     ensures value { read_as factor_pair result ≡ factor_of (names_of inputs.now) word.now }
-    ensures bound { IfOk result (λ f. f.place < 6) }
 {
     match word.split_once('^') {
         Some((name, exponent)) => {
@@ -59,7 +51,6 @@ fn read_factor<'a>(inputs: &Inputs, word: &'a str) -> Result<Factor, Fault<'a>>
 // None where the degree would pass the order.
 #[tactic(auto, unfolding(crate::specs::Factors::raised))]
 fn times(monomial: Monomial, factor: Factor, order: u8) -> Option<Monomial>
-    requires { factor.place < 6 }
     ensures value { result ≡ raised order monomial (factor_pair factor) }
 {
     if degree(monomial) + factor.power as u32 > order as u32 {

@@ -27,7 +27,7 @@ pub enum Mistake {
     OutOfMemory,
 }
 
-// With the word that it is about, or an empty one.
+// With the word that it is about, or an empty one: no word is empty, so an Option would say none in two ways.
 #[derive(Clone, Copy, Debug, PartialEq, Eq)]
 pub enum Fault<'a> {
     Mistaken(Mistake, &'a str),

@@ -5,6 +5,7 @@ mod decimal; // exact decimal numbers of units
 mod desk; // the desk that takes statements
 mod draft; // a polynomial as its terms come in
 mod drafting; // how terms come in
+mod factor; // the place of an input beside a power
 mod factors; // the monomial that factors spell
 mod fault; // what can be wrong with a line
 mod inputs; // the inputs of a box

@@ -26,8 +26,8 @@ fn words_are_cut(rt: HostRuntime) -> Result<(), Fail> {
         assert_eq!(rt; words_of(rt.alloc(), line)?.len(), count);
     }
     let words = words_of(rt.alloc(), " input x\t-0.5 1e3")?;
-    let numbers = words.as_slice().last().and_then(|word| word.number);
-    assert_eq!(rt; numbers, Some(1000.0));
+    let number = words.as_slice().last().and_then(|word| word.number);
+    assert_eq!(rt; number, Some(1000.0));
     Ok(())
 }
 
@@ -106,17 +106,11 @@ fn statements_are_read(rt: HostRuntime) -> Result<(), Fail> {
     Ok(())
 }
 
-// The desk after a line of the batch.
-fn take<'a>(
-    heap: Global,
-    desk: &mut Desk,
-    line: &'a str,
-) -> Result<Result<(), Fault<'a>>, AllocError> {
+// A line of the batch.
+fn take<'a>(heap: Global, desk: &mut Desk, line: &'a str) -> Result<(), Fault<'a>> {
     let words = words_of(heap, line)?;
-    Ok(match read_statement(words.as_slice()) {
-        Ok(statement) => desk.take(heap, statement),
-        Err(fault) => Err(fault),
-    })
+    let statement = read_statement(words.as_slice())?;
+    desk.take(heap, statement)
 }
 
 #[test]
@@ -145,7 +139,7 @@ fn statements_are_taken(rt: HostRuntime) -> Result<(), Fail> {
         ("range", Ok(())),
     ];
     for (line, expected) in rows {
-        assert_eq!(rt; take(heap, &mut desk, line)?, expected);
+        assert_eq!(rt; take(heap, &mut desk, line), expected);
     }
     assert_eq!(rt; desk.closed.as_slice().len(), 1);
     assert_eq!(rt; desk.draft.as_slice().len(), 0);
@@ -157,7 +151,7 @@ fn factors_multiply(rt: HostRuntime) -> Result<(), Fail> {
     let heap = rt.alloc();
     let mut desk = Desk::new(heap);
     for line in ["input x 0 1", "input y 0 1", "input z 0 1"] {
-        assert_eq!(rt; take(heap, &mut desk, line)?, Ok(()));
+        assert_eq!(rt; take(heap, &mut desk, line), Ok(()));
     }
     let rows = [
         ("", Ok([0, 0, 0, 0, 0, 0])),

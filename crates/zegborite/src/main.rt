@@ -30,10 +30,8 @@ fn answer(rt: &HostRuntime, text: &str) -> Result<String, Failure> {
     for (n, line) in text.lines().enumerate() {
         let number = n.saturating_add(1);
         let words = words_of(heap, line)?;
-        let asked = take_words(heap, &mut desk, words.as_slice()).map_err(|fault| Failure::of_line(
-            heap, number, fault,
-        ))?;
-        if asked {
+        let closes = take_words(heap, &mut desk, words.as_slice());
+        if closes.map_err(|fault| Failure::of_line(heap, number, fault))? {
             closed = closed.saturating_add(1);
             let report = PolynomialReport {
                 number: closed,
