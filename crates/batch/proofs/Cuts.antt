@@ -61,7 +61,3 @@ left_some s t x e h =
     let p = h.1.1.1 in
     let f : FindsChar 32 (split_text s) p.0 = subst (λ c. FindsChar c (split_text s) p.0) e p.1 in
     (rw (← h.0) (cut-pieces (split_text s) x.now (split_has_more t) (split_text t) p.0 f p.2), h.1.0 ∙ e)
-
--- none comes: nothing was left
-pub left_none : (s t : Split ℕ) → Steps s None t → left s ≡ []
-left_none s t h = rw (← h.0)

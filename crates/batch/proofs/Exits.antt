@@ -1,5 +1,5 @@
 -- A result read as text goes on where the call before it answered, and ends where it objected.
-use Rattle.std.proofs.Common.{◌≡◌, IsErrAnd, IfOk, Ok, Err, Result, ap, ◌∙◌}
+use Rattle.std.proofs.Common.{◌≡◌, IsErrAnd, Ok, Err, Result, ap, ◌∙◌}
 use Rattle.std.proofs.lemmas.Result.{err_from_is_err_and}
 use Rattle.interval.specs.Reason.{and_then}
 use Rattle.batch.specs.declared.fault.Fault.{Fault}
@@ -15,8 +15,3 @@ ends view r e x f h p =
 -- the way on
 pub goes_on : {B D : Type 0} (d : D) (x : Result D Objection) (f : D → Result B Objection) → Ok d ≡ x → f d ≡ and_then x f
 goes_on d x f p = ap (λ y. and_then y f) p
-
--- what is said of an answer alone holds there
-pub unanswered : {A E : Type 0} (P : A → Type 0) (Q : E → Type 0) (r : Result A E) → IsErrAnd r Q → IfOk r P
-unanswered P Q (Ok x) h = absurd h
-unanswered P Q (Err e) h = tt

@@ -1,15 +1,15 @@
 -- What a slice of 40 places holds once a term has entered the terms in its front.
-use Rattle.std.proofs.Common.{◌≡◌, ℕ, ◌-◌, ◌≤◌, Bool, true, false, cond, leb, List, length, take, drop, is_some, Some, None, Ok, Err, Option, sym, ap, ◌∙◌, subst, arith, length-append, length-drop, length-take, le-leb, leb-true}
+use Rattle.std.proofs.Common.{◌≡◌, ℕ, ◌-◌, ◌≤◌, Bool, true, false, cond, leb, List, length, take, drop, is_some, Some, Ok, Err, Option, sym, ap, ◌∙◌, arith, length-append, length-drop, length-take, le-leb, leb-true}
 use native.Mathlib.Nat.{sub-zero}
 use lib.Seq.{take-append_seam}
-use Rattle.interval.specs.declared.reason.Reason.TheVariants.{TooManyMonomials, DoesNotFit}
+use Rattle.interval.specs.declared.reason.Reason.TheVariants.{DoesNotFit}
 use Rattle.polynomial.specs.declared.term.Term.{Term}
 use Rattle.table.specs.Slice.{over}
 use Rattle.polynomial.specs.Reach.{with_term}
 use Rattle.polynomial.specs.Terms.{all_fit, new_count}
 use Rattle.batch.specs.Drafts.{canonical, admitted}
 use Rattle.batch.proofs.Canonical.{Fitting, with_term_canonical}
-use Rattle.batch.proofs.Picks.{picked, unpicked}
+use Rattle.batch.proofs.Picks.{picked}
 
 -- the first n places of a slice of 40 hold E
 pub record Front (E slice : List Term) (n : ℕ) : Type 0 where
@@ -29,12 +29,6 @@ fronts old new E r n h some e o =
     }
 
 module _ (ts : List Term) (t : Term) where
-  pub no_room : (n : ℕ) → n ≡ 40 → None ≡ new_count n (with_term ts t) → Err TooManyMonomials ≡ admitted ts t
-  unfolding admitted
-  no_room n h e =
-      let many : leb (length (with_term ts t)) 40 ≡ false = subst (λ m. leb (length (with_term ts t)) m ≡ false) h (unpicked _ _ e) in
-      rw many
-
   module _ (slice : List Term) (n : ℕ) (f : Front (with_term ts t) slice n) where
     few : leb (length (with_term ts t)) 40 ≡ true
     few = le-leb _ 40 (omega (arith, f.few, ap length f.front, length-take n slice))

@@ -4,7 +4,3 @@ use Rattle.std.proofs.Common.{◌≡◌, ℕ, Bool, true, false, cond, Some, Non
 pub picked : {A : Type 0} (x y : A) (b : Bool) → Some x ≡ cond b (Some y) None → (b ≡ true) × (x ≡ y)
 picked x y true e = (refl, cc)
 picked x y false e = let z : ◌≡◌ {A = ℕ} 0 1 = cc in absurd (omega arith)
-
-pub unpicked : {A : Type 0} (y : A) (b : Bool) → None ≡ cond b (Some y) None → b ≡ false
-unpicked y true e = let z : ◌≡◌ {A = ℕ} 0 1 = cc in absurd (omega arith)
-unpicked y false e = refl

@@ -1,5 +1,5 @@
 -- A loop over the pieces of a line keeps: the words found, and those among the pieces still to come, are the line's words.
-use Rattle.std.proofs.Common.{◌≡◌, ℕ, ◌<◌, true, List, [], ◌∷◌, ◌++◌, map, length, Some, None, filter, sym, ap, ◌∙◌, subst, append_assoc, append-nil, arith, Bor}
+use Rattle.std.proofs.Common.{◌≡◌, ℕ, ◌<◌, true, List, [], ◌∷◌, ◌++◌, map, length, Some, filter, ap, ◌∙◌, subst, append_assoc, arith, Bor}
 use mathlib.Core.List.{map-append}
 use Rattle.std.specs.declared.str.Split.{Split}
 use Rattle.std.specs.Str.Iter.{split_text, split_has_more, split_pattern}
@@ -7,7 +7,7 @@ use Rattle.std.specs.List.{AllByRecursion}
 use Rattle.std.proofs.ByRecursion.{All-push}
 use Rattle.batch.specs.declared.words.Word.{Word}
 use Rattle.batch.specs.Words.{Text, token, Reads, uncommented, some, words}
-use Rattle.batch.proofs.Cuts.{Steps, left, left_some, left_none}
+use Rattle.batch.proofs.Cuts.{Steps, left, left_some}
 
 abbrev pub texts : List Word → List Text
 texts ws = map (λ w. (token w).text) ws
@@ -51,6 +51,3 @@ kept line s t x found more w h step e same reads grown =
       rest = rw grown (with_word line found w x.now (left t) e same (subst (Ahead line found) c.0 h.rest));
       reads = rw grown (All-push (λ v. Reads (token v)) found w h.reads reads);
     }
-
-pub ended : (line : Text) (s t : Split ℕ) (found : List Word) → Sofar line s found → Steps s None t → texts found ≡ words line
-ended line s t found h step = sym (append-nil (texts found)) ∙ subst (Ahead line found) (left_none s t step) h.rest

@@ -1,6 +1,6 @@
 use Rattle.std.proofs.Common.{ap, ◌∙◌, rules}
 use Rattle.std.specs.Str.Iter.{split_text, split_has_more, split_pattern}
-use Rattle.batch.proofs.Wording.{begun, passed, kept, ended}
+use Rattle.batch.proofs.Wording.{begun, kept}
 use Rattle.batch.proofs.words.words_of.Goals as goal
 
 pub loop-piece-init : goal.loop-piece-init
@@ -12,9 +12,3 @@ loop-piece-init c =
 pub loop-piece-preserved-in-Continue-1 : goal.loop-piece-preserved-in-Continue-1
 loop-piece-preserved-in-Continue-1 c =
     kept _ _ _ c.in-Some.piece _ _ c.new.result c.loop-piece.invariant c.in-Some.ensures.steps (search rules) c.new.ensures.value c.new.ensures.reads (search rules)
-
-pub loop-piece-preserved : goal.loop-piece-preserved
-loop-piece-preserved c = passed _ _ _ c.in-Some.piece _ c.loop-piece.invariant c.in-Some.ensures.steps (search rules)
-
-pub returns : goal.returns
-returns c = record { value = ended _ _ _ _ c.loop-piece.invariant c.in-None.ensures.steps; reads = c.loop-piece.invariant.reads }

@@ -7,8 +7,3 @@ invariant_of-result c =
     let old = c.args.self.now in
     let f = dropped_front old.terms _ old.count _ old.long old.few c.drop_zeros-count.ensures.value c.drop_zeros-count.ensures.after in
     record { long = f.long; few = f.few; sound = rw f.front (dropped-canonical (terms_of old) old.sound) }
-
-pub returns : goal.returns
-returns c =
-    let old = c.args.self.now in
-    record { value = (dropped_front old.terms _ old.count _ old.long old.few c.drop_zeros-count.ensures.value c.drop_zeros-count.ensures.after).front }
