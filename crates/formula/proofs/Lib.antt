@@ -4,7 +4,7 @@ pub mod Texts
 pub mod Lines
 pub mod BuiltFrom
 pub mod Unused
-pub mod TextUses
+pub mod TokensLeft
 pub mod Faults
 pub mod TermCounts
 pub mod PairCounts

@@ -1,8 +1,8 @@
 -- A whole text that was written is read back, token by token: what is read so far stands before the rest.
 -- Assumes nothing.
-use Rattle.std.proofs.Common.{◌≡◌, ℕ, ◌+◌, ◌<◌, List, [], ◌∷◌, ◌++◌, length, get_or, take, Ok, sym, refl, ap, ◌∙◌, ap₂, arith, length-append}
+use Rattle.std.proofs.Common.{◌≡◌, ℕ, ◌+◌, ◌<◌, List, [], ◌∷◌, ◌++◌, length, Ok, sym, refl, ap, ◌∙◌, ap₂, arith, length-append}
 use Rattle.std.specs.List.{AllByRecursion}
-use Rattle.std.proofs.lemmas.List.{append_assoc, flat_map_more, take_more}
+use Rattle.std.proofs.lemmas.List.{append_assoc}
 use Rattle.formula.specs.declared.token.Token.{Token}
 use Rattle.formula.specs.declared.token.Token.TheVariants.{Constant, Variable, Line, Power, Add, Subtract, Multiply}
 use Rattle.formula.specs.Token.{item, items_at, read_tokens}
@@ -39,9 +39,3 @@ read_laid i (x ∷ ts) = ap (◌∷◌ x) (read_laid (i + length (written x)) ts
 
 pub reads_back : ReadsBack
 reads_back ts h = (rest [] ts h, ap read_tokens (rest [] ts h) ∙ read_laid 0 ts)
-
--- a loop that writes one token more has the bytes of one token more
-pub written_more : (ts : List Token) (i : ℕ) (d : Token) {before after : List ℕ} → i < length ts
-    → before ≡ written_all (take i ts) → after ≡ before ++ written (get_or ts i d) → after ≡ written_all (take (i + 1) ts)
-written_more ts i d h b a =
-    a ∙ ap (λ (bytes : List ℕ). bytes ++ written (get_or ts i d)) b ∙ flat_map_more written [] (take i ts) (get_or ts i d) ∙ ap written_all (sym (take_more ts i d h))

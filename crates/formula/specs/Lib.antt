@@ -1,4 +1,5 @@
 pub mod Token
+pub mod Tokens
 pub mod Fault
 pub mod Inputs
 pub mod Admitted

@@ -1,8 +1,8 @@
 -- What lines use, what they are built from, and their exact values at a point: functions of the texts. Assumes nothing.
-use Rattle.std.specs.Prelude.{ℕ, Bool, false, cond, ◌||◌, List, [], ◌∷◌, ◌++◌, pos, Some, None, fold, Option, ◌==◌, slice_index_or, Float}
+use Rattle.std.specs.Prelude.{ℕ, Bool, false, cond, List, [], ◌∷◌, ◌++◌, pos, Some, None, fold, Option, ◌==◌, slice_index_or, Float}
 use Rattle.std.specs.Float.{float_is_finite}
 use Rattle.std.specs.Option.{option_map}
-use Rattle.std.specs.List.{slice_get}
+use Rattle.std.specs.List.{list_any, slice_get}
 use Rattle.rational.specs.Fraction.{Fraction, whole, per, powᶠ, ◌+ᶠ◌, ◌-ᶠ◌, ◌*ᶠ◌}
 use Rattle.interval.specs.Hull.{value}
 use Rattle.formula.specs.declared.token.Token.{Token}
@@ -24,8 +24,7 @@ token_uses v below Subtract = false
 token_uses v below Multiply = false
 
 abbrev pub any_uses : ℕ → List Bool → List Token → Bool
-any_uses v below [] = false
-any_uses v below (t ∷ ts) = token_uses v below t || any_uses v below ts
+any_uses v below ts = list_any (token_uses v below) ts
 
 abbrev pub uses : ℕ → List (List ℕ) → List Bool
 uses v texts = by_line (any_uses v) texts

@@ -7,6 +7,7 @@ mod inputs; // what a formula is given
 mod laws; // what holds whatever the texts
 mod reader; // the token at a place of a text
 mod token; // what a text is made of
+mod tokens; // the tokens of a text, one after the other
 mod usage; // which variables a text uses
 mod writer; // the bytes of tokens
 

@@ -11,16 +11,9 @@ fn real(text: &[u8], at: usize) -> f64
     requires { at + 8 ≤ length text.now }
     ensures value { result ≡ real text.now at }
 {
-    f64_from_bits_with_nan(u64::from_le_bytes([
-        text[at],
-        text[at + 1],
-        text[at + 2],
-        text[at + 3],
-        text[at + 4],
-        text[at + 5],
-        text[at + 6],
-        text[at + 7],
-    ]))
+    let mut bytes = [0; 8];
+    bytes.copy_from_slice(&text[at..at + 8]);
+    f64_from_bits_with_nan(u64::from_le_bytes(bytes))
 }
 
 // The token whose tag stands at `at`, and the place after it. Any eight bytes are a constant, a NaN's too.

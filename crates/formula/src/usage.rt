@@ -3,15 +3,15 @@ ghost use Rattle.std.specs.Prelude.{◌≡◌};
 ghost use Rattle.formula.specs.Token.{tokens};
 ghost use Rattle.formula.specs.Meaning.{token_uses, any_uses};
 
-use crate::reader::read;
 use crate::token::Token;
+use crate::tokens::Tokens;
 
 fn token_uses(token: Token, variable: usize, below: &[bool]) -> bool
     ensures value { result ≡ token_uses variable below.now token }
 {
     match token {
         Token::Variable(number) => variable == usize::from(number),
-        Token::Line(number) => usize::from(number) < below.len() && below[usize::from(number)],
+        Token::Line(number) => below.get(usize::from(number)).is_some_and(|used| *used),
         _ => false,
     }
 }
@@ -20,15 +20,5 @@ fn token_uses(token: Token, variable: usize, below: &[bool]) -> bool
 pub fn uses(text: &[u8], variable: usize, below: &[bool]) -> bool
     ensures value { result ≡ any_uses variable below.now (tokens text.now) }
 {
-    let mut at = 0;
-    while at < text.len() {
-        let Ok((token, next)) = read(text, at) else {
-            return false;
-        };
-        if token_uses(token, variable, below) {
-            return true;
-        }
-        at = next;
-    }
-    false
+    Tokens::of(text).any(|token| token_uses(token, variable, below))
 }
