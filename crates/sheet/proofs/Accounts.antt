@@ -10,13 +10,13 @@ use Rattle.table.specs.Table.{place}
 use Rattle.table.proofs.Readings.{reads}
 use Rattle.taylor.proofs.Results.{require_yes}
 use Rattle.sheet.specs.declared.account.Account.{Account}
-use Rattle.sheet.specs.declared.record.SheetRecord.{SheetRecord}
+use Rattle.sheet.specs.declared.record.SheetRecord.TheInside.{Inside}
 use Rattle.sheet.specs.State.{account, refusal, has_account}
 use Rattle.sheet.specs.Reading.{read_account}
 use Rattle.sheet.specs.Records.{state_of}
 use Rattle.sheet.proofs.Requires.{require_no}
 
-module _ (s : SheetRecord) (office : ℕ) where
+module _ (s : Inside) (office : ℕ) where
   -- the accounts as they are lent
   abbrev lent : List Account
   lent = take (s.offices - 0) s.accounts

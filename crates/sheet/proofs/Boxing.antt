@@ -2,9 +2,11 @@
 use Rattle.std.proofs.Common.{◌≡◌, ℕ, ◌+◌, ◌<◌, ◌≤◌, List, [], ◌∷◌, ◌++◌, length, get_or, take, drop, set, Ok, Err, Result, sym, refl, ap, ◌∙◌, subst, arith}
 use lib.Ieee.{Float}
 use Rattle.std.specs.List.{AllByRecursion}
+use Rattle.std.specs.Result.{MatchResult}
 use Rattle.std.proofs.ByRecursion.{All-push}
 use Rattle.std.proofs.lemmas.List.{at_drop_more, at_drop_all, map_more, take_all}
 use Rattle.interval.specs.declared.reason.Reason.{Reason}
+use Rattle.interval.specs.declared.refusal.Refusal.{Refusal}
 use Rattle.interval.specs.declared.reason.Reason.TheVariants.{EndNotFinite, EndsCrossed, EndDoesNotFit}
 use Rattle.interval.specs.declared.variable.Variable.{Variable}
 use Rattle.interval.specs.Interval.{fits}
@@ -55,8 +57,13 @@ module _ (S : ℕ) (ends : List (Float × Float)) where
           fit = subst (AllByRecursion FitVariable) more (All-push FitVariable (boxed S (take i ends)) v b.fit (record { centre = sound.centre; half = sound.half }));
         }
 
-    pub boxing_stops : (e : Reason) → Err e ≡ variable_of S (get_or ends i d).0 (get_or ends i d).1 → Err (refusal e 0 i) ≡ made_box S ends
+    boxing_stops : (e : Reason) → Err e ≡ variable_of S (get_or ends i d).0 (get_or ends i d).1 → Err (refusal e 0 i) ≡ made_box S ends
     boxing_stops e is = sym (ap (λ r. and_then r (λ _. Ok (packed 6 no_variable (boxed S ends)))) (next (Err e) is))
+
+    -- the refusal of ends i is that of all
+    pub boxing-refused : (r : Result Variable Reason) → r ≡ variable_of S (get_or ends i d).0 (get_or ends i d).1 → (f : Refusal) → MatchResult r (λ v. ⊥) (λ e. f ≡ refusal e 0 i) → Err f ≡ made_box S ends
+    boxing-refused (Ok v) is f q = absurd q
+    boxing-refused (Err e) is f q = ap Err q ∙ boxing_stops e is
 
   module _ (i : ℕ) (made : List Variable) (b : Boxing i made) (h : length ends ≤ i) where
     all_taken : take i ends ≡ ends

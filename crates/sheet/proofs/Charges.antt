@@ -1,5 +1,5 @@
 -- Charging an office: its account grows or is opened, and the accounts keep their shape. Assumes nothing.
-use Rattle.std.proofs.Common.{◌≡◌, ℕ, ◌+◌, ◌^◌, ◌<◌, ◌≤◌, Bool, true, cond, ◌||◌, ltb, leb, List, [], ◌∷◌, length, sum_by, Ordering, Less, Equal, Greater, refl, ◌∙◌, ⊎_elim, arith}
+use Rattle.std.proofs.Common.{◌≡◌, ℕ, ◌+◌, ◌^◌, ◌<◌, ◌≤◌, Bool, true, cond, ◌||◌, ltb, leb, List, [], ◌∷◌, length, sum_by, Ordering, Less, Equal, Greater, refl, ap, ◌∙◌, ⊎_elim, arith}
 use Rattle.std.specs.List.{AllByRecursion}
 use Rattle.std.proofs.ByRecursion.{All-from_get_or}
 use Rattle.std.proofs.lemmas.List.{take_at}
@@ -12,8 +12,8 @@ use Rattle.table.proofs.Ascents.{entered-ascends}
 use Rattle.table.proofs.Growth.{length-entered, entered_by_one}
 use Rattle.table.proofs.Packing.{packs_long, packs-entered}
 use Rattle.sheet.specs.declared.account.Account.{Account}
-use Rattle.sheet.specs.declared.record.SheetRecord.{SheetRecord}
-use Rattle.sheet.specs.State.{account, has_account, can_charge, affordable, charged}
+use Rattle.sheet.specs.declared.record.SheetRecord.TheInside.{Inside}
+use Rattle.sheet.specs.State.{account, has_account, can_charge, affordable, charged, charged_state}
 use Rattle.sheet.specs.Records.{state_of, with_accounts, charged_record}
 use Rattle.sheet.specs.Shape.{Shape}
 use Rattle.sheet.proofs.Slices.{packs_own}
@@ -41,7 +41,7 @@ charged-fits es o n few c = ⊎_elim
     (λ (t : ltb (length es) 8 ≡ true). omega (arith, ltb-true (length es) 8 t, entered_by_one by_number (λ a. a.office) joined es (account o n)))
     (or_cases (has_account es o) (ltb (length es) 8) c)
 
-module _ (s : SheetRecord) (shape : Shape s) (o n : ℕ) (room : can_charge (state_of s) o ≡ true) (paid : affordable (state_of s) n ≡ true) where
+module _ (s : Inside) (shape : Shape s) (o n : ℕ) (room : can_charge (state_of s) o ≡ true) (paid : affordable (state_of s) n ≡ true) where
   abbrev es : List Account
   es = (state_of s).accounts
 
@@ -78,6 +78,9 @@ module _ (s : SheetRecord) (shape : Shape s) (o n : ℕ) (room : can_charge (sta
   -- what stands in the record then
   pub charged-accounts : (state_of (charged_record s o n)).accounts ≡ charged es o n
   charged-accounts = take_at (charged es o n) _ (length (charged es o n)) refl
+
+  pub charge-state : state_of (charged_record s o n) ≡ charged_state (state_of s) o n
+  charge-state = ap (λ accounts. record { order = s.order; box = (state_of s).box; allowance = s.allowance; lines = (state_of s).lines; accounts = accounts }) charged-accounts
 
   pub charge_shape : Shape (charged_record s o n)
   charge_shape = record {

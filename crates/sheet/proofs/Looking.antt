@@ -6,7 +6,7 @@ use Rattle.std.proofs.lemmas.List.{get_or-take}
 use Rattle.std.proofs.lemmas.Option.{slice_get-get_or, slice_get_past}
 use Rattle.interval.specs.declared.variable.Variable.{Variable}
 use Rattle.sheet.specs.declared.line.LineRecord.{LineRecord}
-use Rattle.sheet.specs.declared.record.SheetRecord.{SheetRecord}
+use Rattle.sheet.specs.declared.record.SheetRecord.TheInside.{Inside}
 use Rattle.sheet.specs.State.{Line}
 use Rattle.sheet.specs.Records.{line_of, standing_lines, state_of}
 use Rattle.sheet.specs.Shape.{Shape}
@@ -23,7 +23,7 @@ nth_map f [] n = refl
 nth_map f (x ∷ xs) zero = refl
 nth_map f (x ∷ xs) (suc n) = nth_map f xs n
 
-module _ (s : SheetRecord) (shape : Shape s) (n : ℕ) where
+module _ (s : Inside) (shape : Shape s) (n : ℕ) where
   pub variable-there : n < s.inputs → (d : Variable) → Some (get_or s.variables n d) ≡ slice_get (state_of s).box n
   variable-there h d = front_at s.variables s.inputs n shape.box.packs.size h d
 
@@ -37,5 +37,5 @@ module _ (s : SheetRecord) (shape : Shape s) (n : ℕ) where
   no_record_there h = front_past s.lines s.standing n shape.lines.packs.size h
 
 -- what a line's record tells is what the line does
-pub told_of : {A : Type 0} (s : SheetRecord) (n : ℕ) (f : Line → A) (o : Option LineRecord) → o ≡ slice_get (standing_lines s) n → option_map f (option_map line_of o) ≡ option_map f (slice_get (state_of s).lines n)
+pub told_of : {A : Type 0} (s : Inside) (n : ℕ) (f : Line → A) (o : Option LineRecord) → o ≡ slice_get (standing_lines s) n → option_map f (option_map line_of o) ≡ option_map f (slice_get (state_of s).lines n)
 told_of s n f o is = ap (option_map f) (ap (option_map line_of) is ∙ nth_map line_of (standing_lines s) n)

@@ -1,7 +1,6 @@
 -- Each way out of opening a sheet. Assumes nothing.
-use Rattle.std.proofs.Common.{◌≡◌, ℕ, true, false, leb, List, [], length, IsErrAnd, IfOk, Ok, Err, Result, sym, refl, ap, ◌∙◌, arith}
+use Rattle.std.proofs.Common.{◌≡◌, ℕ, true, false, leb, List, [], length, IsErrAnd, Ok, Err, Result, sym, refl, ap, ◌∙◌, arith}
 use lib.Ieee.{Float}
-use Rattle.std.specs.Result.{result_map_both}
 use Rattle.std.specs.List.{AllByRecursion}
 use Rattle.std.proofs.lemmas.List.{length-map}
 use Rattle.std.proofs.lemmas.Bool.{and_parts, leb-true}
@@ -14,8 +13,7 @@ use Rattle.table.specs.Slice.{packed, Packs}
 use Rattle.table.proofs.Packing.{packs_front}
 use Rattle.taylor.proofs.Results.{same-value, not_refused, and_then_ok, require_yes}
 use Rattle.formula.specs.Work.{no_variable}
-use Rattle.sheet.specs.declared.record.SheetRecord.{SheetRecord}
-use Rattle.sheet.specs.State.{from_to, refusal}
+use Rattle.sheet.specs.State.{State, from_to, refusal}
 use Rattle.sheet.specs.Opening.{opening, largest_allowance, opened, ends_tested, open_sheet}
 use Rattle.sheet.specs.Boxes.{boxed, made_box}
 use Rattle.sheet.specs.Records.{state_of, opened_record}
@@ -52,7 +50,7 @@ module _ (k : KindMeaning) (order : ℕ) (ends : List (Float × Float)) (allowan
         unfolding open_sheet
         passed = require_yes _ _ _ (sym a) ∙ require_yes _ _ _ (sym b) ∙ require_yes _ _ _ (sym c) ∙ rw scale refl
 
-        pub opens-refused : (e : Refusal) → Err e ≡ made_box S ends → (r : Result SheetRecord Refusal) → IsErrAnd r (λ f. f ≡ e) → result_map_both state_of (λ f. f) r ≡ open_sheet k (opening order ends allowance)
+        pub opens-refused : (e : Refusal) → Err e ≡ made_box S ends → (r : Result State Refusal) → IsErrAnd r (λ f. f ≡ e) → r ≡ open_sheet k (opening order ends allowance)
         opens-refused e is (Ok s) q = elim q [ ]
         opens-refused e is (Err f) q = ap Err q ∙ refused-before (ends_tested S 0 ends) _ (opened k (opening order ends allowance)) e is ∙ sym passed
 
@@ -80,8 +78,3 @@ module _ (k : KindMeaning) (order : ℕ) (ends : List (Float × Float)) (allowan
             lines = record { packs = record { whole = refl; size = refl; fits = omega arith }; each = tt };
             accounts = record { packs = record { whole = refl; size = refl; fits = omega arith }; ascends = tt; paid = omega arith };
           }
-
--- what an exit hands on keeps nothing
-pub unopened : (e : Refusal) (r : Result SheetRecord Refusal) → IsErrAnd r (λ f. f ≡ e) → IfOk r Shape
-unopened e (Ok s) q = elim q [ ]
-unopened e (Err f) q = tt

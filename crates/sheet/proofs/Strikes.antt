@@ -5,7 +5,7 @@ use Rattle.interval.specs.declared.reason.Reason.TheVariants.{OfficeOutOfRange, 
 use Rattle.interval.specs.declared.refusal.Refusal.{Refusal}
 use Rattle.taylor.proofs.Results.{require_yes}
 use Rattle.sheet.specs.declared.line.LineRecord.{LineRecord}
-use Rattle.sheet.specs.declared.record.SheetRecord.{SheetRecord}
+use Rattle.sheet.specs.declared.record.SheetRecord.TheInside.{Inside}
 use Rattle.sheet.specs.State.{State, line_at, refusal, known_office, outcome, settled}
 use Rattle.sheet.specs.Striking.{without_newest, struck, strike}
 use Rattle.sheet.specs.Records.{state_of, struck_record}
@@ -33,8 +33,14 @@ module _ (s : State) (office : ℕ) where
       unfolding struck
       own e = require_yes _ _ _ k ∙ require_yes _ _ _ (lt-ltb 0 (length s.lines) h) ∙ require_yes _ _ _ (eq-eqb _ office e)
 
+  refuses : (e f : Refusal) → e ≡ f → struck s office ≡ Err f → outcome s (Err e) ≡ strike s office
+  refuses e f is q = ap (settled s) (ap Err is ∙ sym q)
+
+  pub strikes_unknown : (e : Refusal) → e ≡ refusal OfficeOutOfRange 0 0 → false ≡ known_office office → outcome s (Err e) ≡ strike s office
+  strikes_unknown e is k = refuses e _ is (unknown (sym k))
+
 -- ---- over a record
-module _ (s : SheetRecord) (shape : Shape s) where
+module _ (s : Inside) (shape : Shape s) where
   count : length (state_of s).lines ≡ s.standing
   count = lines-count s.standing s.lines shape.lines
 
@@ -52,22 +58,16 @@ module _ (s : SheetRecord) (shape : Shape s) where
   }
 
   module _ (office : ℕ) where
-    refuses : (e f : Refusal) → e ≡ f → struck (state_of s) office ≡ Err f → outcome (state_of s) (Err e) ≡ strike (state_of s) office
-    refuses e f is q = ap (settled (state_of s)) (ap Err is ∙ sym q)
-
-    pub strikes_unknown : (e : Refusal) → e ≡ refusal OfficeOutOfRange 0 0 → false ≡ known_office office → outcome (state_of s) (Err e) ≡ strike (state_of s) office
-    strikes_unknown e is k = refuses e _ is (unknown (state_of s) office (sym k))
-
     module _ (k : true ≡ known_office office) where
       pub strikes_none : (e : Refusal) → e ≡ refusal NoLineToStrike 0 0 → s.standing ≡ 0 → outcome (state_of s) (Err e) ≡ strike (state_of s) office
-      strikes_none e is z = refuses e _ is (empty (state_of s) office (sym k) (count ∙ z))
+      strikes_none e is z = refuses (state_of s) office e _ is (empty (state_of s) office (sym k) (count ∙ z))
 
       module _ (some : s.standing ≡ 0 → ⊥) (d : LineRecord) where
         pub strikes_another : (e : Refusal) → e ≡ refusal PostedByAnother (s.standing - 1) 0 → ((get_or s.lines (s.standing - 1) d).office ≡ office → ⊥) → outcome (state_of s) (Err e) ≡ strike (state_of s) office
         strikes_another e is ne =
             let h : 0 < s.standing = omega arith in
             let same = ap (λ n. refusal PostedByAnother (n - 1) 0) (sym count) in
-            refuses e _ (is ∙ same) (another (state_of s) office (sym k) (rw count h) (λ q. ne (sym (newest d h) ∙ q)))
+            refuses (state_of s) office e _ (is ∙ same) (another (state_of s) office (sym k) (rw count h) (λ q. ne (sym (newest d h) ∙ q)))
 
         pub strikes_own : (get_or s.lines (s.standing - 1) d).office ≡ office → outcome (state_of (struck_record s)) (Ok tt) ≡ strike (state_of s) office
         strikes_own q =

@@ -10,7 +10,7 @@ use Rattle.taylor.specs.Model.{Model, packed, unpacked, zero_record}
 use Rattle.taylor.specs.Product.{worked}
 use Rattle.sheet.specs.declared.account.Account.{Account}
 use Rattle.sheet.specs.declared.line.LineRecord.{LineRecord}
-use Rattle.sheet.specs.declared.record.SheetRecord.{SheetRecord}
+use Rattle.sheet.specs.declared.record.SheetRecord.TheInside.{Inside}
 use Rattle.sheet.specs.State.{Line, line, State, account, charged}
 
 -- what stands where no line does: nothing but zeros
@@ -33,11 +33,11 @@ recorded_line office text w = record {
 }
 
 -- the records of the lines that stand
-abbrev pub standing_lines : SheetRecord → List LineRecord
+abbrev pub standing_lines : Inside → List LineRecord
 standing_lines s = take s.standing s.lines
 
 -- the sheet that a record holds: what its counts say is in use
-abbrev pub state_of : SheetRecord → State
+abbrev pub state_of : Inside → State
 state_of s = record {
   order = s.order;
   box = take s.inputs s.variables;
@@ -57,7 +57,7 @@ read_into old (Err e) = old
 
 -- ---- what turns do to a record
 -- a new sheet has so many variables, no lines and no accounts
-abbrev pub opened_record : ℕ → ℕ → ℕ → List Variable → SheetRecord
+abbrev pub opened_record : ℕ → ℕ → ℕ → List Variable → Inside
 opened_record order allowance count vs = record {
   order = order;
   allowance = allowance;
@@ -70,7 +70,7 @@ opened_record order allowance count vs = record {
 }
 
 -- other lines
-abbrev pub with_lines : SheetRecord → ℕ → List LineRecord → SheetRecord
+abbrev pub with_lines : Inside → ℕ → List LineRecord → Inside
 with_lines s count ls = record {
   order = s.order;
   allowance = s.allowance;
@@ -83,15 +83,15 @@ with_lines s count ls = record {
 }
 
 -- the newest line becomes zero
-abbrev pub struck_record : SheetRecord → SheetRecord
+abbrev pub struck_record : Inside → Inside
 struck_record s = with_lines s (s.standing - 1) (slice_set s.lines (s.standing - 1) zero_line)
 
 -- a line is added last
-abbrev pub added_record : SheetRecord → LineRecord → SheetRecord
+abbrev pub added_record : Inside → LineRecord → Inside
 added_record s l = with_lines s (s.standing + 1) (slice_set s.lines s.standing l)
 
 -- other accounts
-abbrev pub with_accounts : SheetRecord → ℕ → List Account → SheetRecord
+abbrev pub with_accounts : Inside → ℕ → List Account → Inside
 with_accounts s count entries = record {
   order = s.order;
   allowance = s.allowance;
@@ -104,7 +104,7 @@ with_accounts s count entries = record {
 }
 
 -- pairs are charged to an office
-abbrev pub charged_record : SheetRecord → ℕ → ℕ → SheetRecord
+abbrev pub charged_record : Inside → ℕ → ℕ → Inside
 charged_record s office pairs =
     let entries = charged (state_of s).accounts office pairs in
     with_accounts s (length entries) (slice.packed 8 (account 0 0) entries)

@@ -11,7 +11,7 @@ use Rattle.taylor.specs.Record.{Held}
 use Rattle.formula.specs.Work.{no_variable}
 use Rattle.sheet.specs.declared.account.Account.{Account}
 use Rattle.sheet.specs.declared.line.LineRecord.{LineRecord}
-use Rattle.sheet.specs.declared.record.SheetRecord.{SheetRecord}
+use Rattle.sheet.specs.declared.record.SheetRecord.TheInside.{Inside}
 use Rattle.sheet.specs.State.{account}
 use Rattle.sheet.specs.Opening.{largest_allowance}
 use Rattle.sheet.specs.Records.{zero_line}
@@ -49,7 +49,7 @@ pub record AccountsShape (allowance count : ℕ) (entries : List Account) : Type
   pub ascends : Ascending by_number (λ a. a.office) (take count entries)
   pub paid : sum_by (λ a. a.pairs) (take count entries) ≤ allowance
 
-pub record Shape (s : SheetRecord) : Type 0 where
+pub record Shape (s : Inside) : Type 0 where
   pub order : FromTo 1 greatest_order s.order
   pub allowance : FromTo 1 largest_allowance s.allowance
   pub box : BoxShape s.inputs s.variables

@@ -76,6 +76,10 @@ affordable s n = nat_le (n + sum_by (λ a. a.pairs) s.accounts) s.allowance
 abbrev pub charged : List Account → ℕ → ℕ → List Account
 charged accounts o n = entered by_number (λ a. a.office) (λ a b. account a.office (a.pairs + b.pairs)) accounts (account o n)
 
+-- the same sheet, with the pairs charged to the office
+abbrev pub charged_state : State → ℕ → ℕ → State
+charged_state s o n = record { order = s.order; box = s.box; allowance = s.allowance; lines = s.lines; accounts = charged s.accounts o n }
+
 -- a posting and a narrowing ask for so many working records
 abbrev pub enough_records : ℕ → Bool
 enough_records n = nat_le 21 n

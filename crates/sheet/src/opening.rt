@@ -1,17 +1,16 @@
 // Opening a sheet.
-ghost use Rattle.std.specs.Prelude.{◌≡◌, ◌≤◌, length, IfOk, OnOk};
-ghost use Rattle.std.specs.Result.{result_map_both};
+ghost use Rattle.std.specs.Prelude.{◌≡◌, ◌≤◌, length, OnOk};
 ghost use Rattle.std.specs.List.{AllByRecursion};
 ghost use Rattle.interval.specs.Scale.{per_unit};
 ghost use Rattle.sheet.specs.Boxes.{boxed, made_box};
 ghost use Rattle.sheet.specs.Opening.{opening, open_sheet};
-ghost use Rattle.sheet.specs.Records.{state_of};
-ghost use Rattle.sheet.specs.Shape.{FitVariable, Shape};
+ghost use Rattle.sheet.specs.Shape.{FitVariable};
 
 use crate::account::Account;
 use crate::line::LineRecord;
 use crate::record::SheetRecord;
 use crate::refusing::{is_from_to, refuse};
+use formula::Ends;
 use interval::{Kind, Reason, Refusal, Scale, Variable};
 
 // What stands where no variable does.
@@ -29,53 +28,51 @@ const NO_ACCOUNT: Account = Account {
 };
 
 // The variables that the ends make, one after the other; a refusal has the variable's number as its place.
-fn variables(scale: Scale, ends: &[(f64, f64)]) -> Result<[Variable; 6], Refusal>
+fn variables(scale: Scale, ends: &[Ends]) -> Result<[Variable; 6], Refusal>
     requires { length ends.now ≤ 6 }
     ensures value { result ≡ made_box (per_unit scale) ends.now }
     ensures fit { OnOk result (AllByRecursion FitVariable (boxed (per_unit scale) ends.now)) }
 {
     let mut made = [NO_VARIABLE; 6];
     for (i, (lower, upper)) in ends.iter().enumerate() {
-        match Variable::new(*lower, *upper, scale) {
-            Ok(variable) => made[i] = variable,
-            Err(reason) => return Err(Refusal {
-                reason,
-                line: 0,
-                place: i,
-            }),
-        }
+        made[i] = Variable::new(*lower, *upper, scale).map_err(|reason| Refusal {
+            reason,
+            line: 0,
+            place: i,
+        })?;
     }
     Ok(made)
 }
 
-// No lines and no accounts.
-pub fn open<K: Kind>(
-    kind: &K,
-    order: u64,
-    ends: &[(f64, f64)],
-    allowance: u64,
-) -> Result<SheetRecord, Refusal>
-    ensures value { result_map_both state_of (λ e. e) result ≡ open_sheet (K.meaning kind.now) (opening order ends.now allowance) }
-    ensures keeps { IfOk result Shape }
-{
-    if !is_from_to(1, 8, order) {
-        return Err(refuse(Reason::OrderOutOfRange, 0));
+impl SheetRecord {
+    // No lines and no accounts.
+    pub fn open<K: Kind>(
+        kind: &K,
+        order: u64,
+        ends: &[Ends],
+        allowance: u64,
+    ) -> Result<SheetRecord, Refusal>
+        ensures value { result ≡ open_sheet (K.meaning kind.now) (opening order ends.now allowance) }
+    {
+        if !is_from_to(1, 8, order) {
+            return Err(refuse(Reason::OrderOutOfRange, 0));
+        }
+        if !is_from_to(1, 6, ends.len() as u64) {
+            return Err(refuse(Reason::VariablesOutOfRange, 0));
+        }
+        if !is_from_to(1, 1_000_000_000, allowance) {
+            return Err(refuse(Reason::AllowanceOutOfRange, 0));
+        }
+        let made = variables(kind.scale(), ends)?;
+        Ok(SheetRecord {
+            order: order as u32,
+            allowance,
+            inputs: ends.len(),
+            variables: made,
+            standing: 0,
+            lines: [LineRecord::zero(); 12],
+            offices: 0,
+            accounts: [NO_ACCOUNT; 8],
+        })
     }
-    if !is_from_to(1, 6, ends.len() as u64) {
-        return Err(refuse(Reason::VariablesOutOfRange, 0));
-    }
-    if !is_from_to(1, 1_000_000_000, allowance) {
-        return Err(refuse(Reason::AllowanceOutOfRange, 0));
-    }
-    let made = variables(kind.scale(), ends)?;
-    Ok(SheetRecord {
-        order: order as u32,
-        allowance,
-        inputs: ends.len(),
-        variables: made,
-        standing: 0,
-        lines: [LineRecord::zero(); 12],
-        offices: 0,
-        accounts: [NO_ACCOUNT; 8],
-    })
 }

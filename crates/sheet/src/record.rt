@@ -2,9 +2,10 @@
 use crate::account::Account;
 use crate::line::LineRecord;
 use interval::Variable;
+use std::marker::Model;
 
 // Each array is in use up to its count: the variables to `inputs`, the lines to `standing`, the accounts to `offices`.
-#[derive(Clone, Copy)]
+// A sheet has fixed memory, so these are arrays with counts and no `Vec`.
 pub struct SheetRecord {
     pub order: u32,
     pub allowance: u64,
@@ -14,4 +15,18 @@ pub struct SheetRecord {
     pub lines: [LineRecord; 12],
     pub offices: usize,
     pub accounts: [Account; 8],
+}
+
+// It is seen as the state that it holds, and keeps its shape.
+impl Model for SheetRecord {
+    ghost use Rattle.sheet.specs.State.{State};
+
+    ghost Value = { State };
+
+    ghost use Rattle.sheet.specs.Records.{state_of};
+    ghost use Rattle.sheet.specs.Shape.{Shape};
+
+    ghost view = { state_of };
+
+    ghost invariant = { Shape };
 }

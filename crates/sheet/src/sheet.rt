@@ -1,6 +1,4 @@
 // A sheet.
-ghost use Rattle.sheet.specs.Shape.{Shape};
-
 use crate::record::SheetRecord;
 
 // A kind and a method of the user's, with the record that they are asked about.
@@ -8,5 +6,4 @@ pub struct Sheet<K, M> {
     pub(crate) kind: K,
     pub(crate) method: M,
     pub(crate) contents: SheetRecord,
-    ghost shape: { ∥ Shape contents ∥₁ },
 }
