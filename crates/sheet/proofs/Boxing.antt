@@ -7,27 +7,17 @@ use Rattle.std.proofs.ByRecursion.{All-push}
 use Rattle.std.proofs.lemmas.List.{at_drop_more, at_drop_all, map_more, take_all}
 use Rattle.interval.specs.declared.reason.Reason.{Reason}
 use Rattle.interval.specs.declared.refusal.Refusal.{Refusal}
-use Rattle.interval.specs.declared.reason.Reason.TheVariants.{EndNotFinite, EndsCrossed, EndDoesNotFit}
 use Rattle.interval.specs.declared.variable.Variable.{Variable}
-use Rattle.interval.specs.Interval.{fits}
 use Rattle.interval.specs.Reason.{and_then}
-use Rattle.interval.specs.Variable.{both_finite, uncrossed, hull_ends, variable, variable_of, Sound}
+use Rattle.interval.specs.Variable.{variable, variable_of, Sound}
 use Rattle.table.specs.Slice.{packed, Packs}
-use Rattle.taylor.proofs.Results.{same-value, require_ok}
+use Rattle.formula.specs.Inputs.{ends_tested}
 use Rattle.formula.specs.Work.{no_variable, at_place}
 use Rattle.sheet.specs.State.{refusal, at_line}
-use Rattle.sheet.specs.Opening.{ends_tested}
 use Rattle.sheet.specs.Boxes.{boxed, made_box}
 use Rattle.sheet.specs.Shape.{FitVariable}
+use Rattle.formula.proofs.Enclosing.{accepted_is}
 use Rattle.sheet.proofs.Slices.{packs-push}
-
--- a variable that was made is the one of its ends
-is_variable : (S : ℕ) (x y : Float) (v : Variable) → Ok v ≡ variable_of S x y → v ≡ variable S x y
-is_variable S x y v q =
-    let (a, q1) = require_ok (both_finite x y) EndNotFinite _ (sym q) in
-    let (b, q2) = require_ok (uncrossed x y) EndsCrossed _ q1 in
-    let (c, q3) = require_ok (fits (hull_ends S x y)) EndDoesNotFit _ q2 in
-    sym (same-value q3)
 
 module _ (S : ℕ) (ends : List (Float × Float)) where
   -- the first i variables are made, and what is left decides
@@ -42,15 +32,15 @@ module _ (S : ℕ) (ends : List (Float × Float)) where
   module _ (i : ℕ) (made : List Variable) (b : Boxing i made) (d : Float × Float) (h : i < length ends) where
     -- what is left begins with ends i
     next : (r : Result Variable Reason) → r ≡ variable_of S (get_or ends i d).0 (get_or ends i d).1
-        → ends_tested S 0 ends ≡ and_then (at_line 0 (at_place i r)) (λ _. ends_tested S (i + 1) (drop (i + 1) ends))
+        → ends_tested S 0 ends ≡ and_then (at_place i r) (λ _. ends_tested S (i + 1) (drop (i + 1) ends))
     next r is =
         sym b.tested ∙ at_drop_more (ends_tested S i) ends i d h
-        ∙ ap (λ q. and_then (at_line 0 (at_place i q)) (λ _. ends_tested S (i + 1) (drop (i + 1) ends))) (sym is)
+        ∙ ap (λ q. and_then (at_place i q) (λ _. ends_tested S (i + 1) (drop (i + 1) ends))) (sym is)
 
     pub boxing_more : length ends ≤ 6 → (v : Variable) → Ok v ≡ variable_of S (get_or ends i d).0 (get_or ends i d).1 → Sound S v → Boxing (i + 1) (set made i v)
     boxing_more few v is sound =
         let more : boxed S (take i ends) ++ (v ∷ []) ≡ boxed S (take (i + 1) ends) =
-        ap (λ w. boxed S (take i ends) ++ (w ∷ [])) (is_variable S _ _ v is) ∙ sym (map_more (λ e. variable S e.0 e.1) ends i d h) in
+        ap (λ w. boxed S (take i ends) ++ (w ∷ [])) (accepted_is S (get_or ends i d) (sym is)) ∙ sym (map_more (λ e. variable S e.0 e.1) ends i d h) in
         record {
           tested = sym (next (Ok v) is);
           packs = subst (Packs 6 no_variable (set made i v) (i + 1)) more (packs-push 6 no_variable made i (boxed S (take i ends)) v b.packs (omega arith));
@@ -58,7 +48,7 @@ module _ (S : ℕ) (ends : List (Float × Float)) where
         }
 
     boxing_stops : (e : Reason) → Err e ≡ variable_of S (get_or ends i d).0 (get_or ends i d).1 → Err (refusal e 0 i) ≡ made_box S ends
-    boxing_stops e is = sym (ap (λ r. and_then r (λ _. Ok (packed 6 no_variable (boxed S ends)))) (next (Err e) is))
+    boxing_stops e is = sym (ap (λ r. and_then (at_line 0 r) (λ _. Ok (packed 6 no_variable (boxed S ends)))) (next (Err e) is))
 
     -- the refusal of ends i is that of all
     pub boxing-refused : (r : Result Variable Reason) → r ≡ variable_of S (get_or ends i d).0 (get_or ends i d).1 → (f : Refusal) → MatchResult r (λ v. ⊥) (λ e. f ≡ refusal e 0 i) → Err f ≡ made_box S ends
@@ -72,7 +62,7 @@ module _ (S : ℕ) (ends : List (Float × Float)) where
     pub boxing_all : Ok made ≡ made_box S ends
     boxing_all =
         ap Ok (b.packs.whole ∙ ap (λ es. packed 6 no_variable (boxed S es)) all_taken)
-        ∙ sym (ap (λ r. and_then r (λ _. Ok (packed 6 no_variable (boxed S ends)))) (sym b.tested ∙ at_drop_all (ends_tested S i) ends i h))
+        ∙ sym (ap (λ r. and_then (at_line 0 r) (λ _. Ok (packed 6 no_variable (boxed S ends)))) (sym b.tested ∙ at_drop_all (ends_tested S i) ends i h))
 
     pub boxing_fit : AllByRecursion FitVariable (boxed S ends)
     boxing_fit = subst (λ es. AllByRecursion FitVariable (boxed S es)) all_taken b.fit

@@ -1,5 +1,5 @@
 -- Charging an office: its account grows or is opened, and the accounts keep their shape. Assumes nothing.
-use Rattle.std.proofs.Common.{◌≡◌, ℕ, ◌+◌, ◌^◌, ◌<◌, ◌≤◌, Bool, true, cond, ◌||◌, ltb, leb, List, [], ◌∷◌, length, sum_by, Ordering, Less, Equal, Greater, refl, ap, ◌∙◌, ⊎_elim, arith}
+use Rattle.std.proofs.Common.{◌≡◌, ℕ, ◌+◌, ◌^◌, ◌<◌, ◌≤◌, Bool, true, cond, ◌||◌, ltb, leb, List, [], ◌∷◌, length, sum_by, Ordering, Less, Equal, Greater, sym, refl, ap, ◌∙◌, subst, ⊎_elim, arith}
 use Rattle.std.specs.List.{AllByRecursion}
 use Rattle.std.proofs.ByRecursion.{All-from_get_or}
 use Rattle.std.proofs.lemmas.List.{take_at}
@@ -13,7 +13,7 @@ use Rattle.table.proofs.Growth.{length-entered, entered_by_one}
 use Rattle.table.proofs.Packing.{packs_long, packs-entered}
 use Rattle.sheet.specs.declared.account.Account.{Account}
 use Rattle.sheet.specs.declared.record.SheetRecord.TheInside.{Inside}
-use Rattle.sheet.specs.State.{account, has_account, can_charge, affordable, charged, charged_state}
+use Rattle.sheet.specs.State.{account, has_account, can_charge, State, affordable, charged, charged_state}
 use Rattle.sheet.specs.Records.{state_of, with_accounts, charged_record}
 use Rattle.sheet.specs.Shape.{Shape}
 use Rattle.sheet.proofs.Slices.{packs_own}
@@ -41,18 +41,16 @@ charged-fits es o n few c = ⊎_elim
     (λ (t : ltb (length es) 8 ≡ true). omega (arith, ltb-true (length es) 8 t, entered_by_one by_number (λ a. a.office) joined es (account o n)))
     (or_cases (has_account es o) (ltb (length es) 8) c)
 
-module _ (s : Inside) (shape : Shape s) (o n : ℕ) (room : can_charge (state_of s) o ≡ true) (paid : affordable (state_of s) n ≡ true) where
+-- of the record of a sheet t
+module _ (s : Inside) (shape : Shape s) (t : State) (seen : state_of s ≡ t) (o n : ℕ) (room : can_charge t o ≡ true) (paid : affordable t n ≡ true) where
   abbrev es : List Account
   es = (state_of s).accounts
 
   within : n + total es ≤ s.allowance
-  within = leb-true (n + total es) s.allowance paid
+  within = leb-true (n + total es) s.allowance (subst (λ u. affordable u n ≡ true) (sym seen) paid)
 
   few : length es ≤ 8
   few = shape.accounts.packs.fits
-
-  pub charge_room : s.offices ≤ length s.accounts
-  charge_room = let size = shape.accounts.packs.size in let long = packs_long 8 (account 0 0) s.accounts s.offices es shape.accounts.packs in let f = few in omega arith
 
   -- no sum leaves 64 bits
   pub charge_joins : AllByRecursion (λ a. a.pairs + n < 2 ^ 64) es
@@ -62,12 +60,12 @@ module _ (s : Inside) (shape : Shape s) (o n : ℕ) (room : can_charge (state_of
       omega (arith, get_or-le-sum_by (λ (a : Account). a.pairs) es i (account 0 0) h))
 
   fits : length (charged es o n) ≤ 8
-  fits = charged-fits es o n few room
+  fits = charged-fits es o n few (subst (λ u. can_charge u o ≡ true) (sym seen) room)
 
   -- by the table's answer
-  pub charge_after : (entered : Bool) (after : List Account) (count : ℕ) → entered ≡ leb (length (charged es o n)) (length s.accounts)
+  after-charged : (entered : Bool) (after : List Account) (count : ℕ) → entered ≡ leb (length (charged es o n)) (length s.accounts)
       → after ≡ cond entered (over (charged es o n) s.accounts) s.accounts → count ≡ cond entered (length (charged es o n)) s.offices → with_accounts s count after ≡ charged_record s o n
-  charge_after entered after count is slice size =
+  after-charged entered after count is slice size =
       let p = shape.accounts.packs in
       let long = packs_long 8 (account 0 0) s.accounts s.offices es p in
       let f = fits in
@@ -76,14 +74,11 @@ module _ (s : Inside) (shape : Shape s) (o n : ℕ) (room : can_charge (state_of
       λ i. with_accounts s (q.size i) (q.whole i)
 
   -- what stands in the record then
-  pub charged-accounts : (state_of (charged_record s o n)).accounts ≡ charged es o n
+  charged-accounts : (state_of (charged_record s o n)).accounts ≡ charged es o n
   charged-accounts = take_at (charged es o n) _ (length (charged es o n)) refl
 
-  pub charge-state : state_of (charged_record s o n) ≡ charged_state (state_of s) o n
-  charge-state = ap (λ accounts. record { order = s.order; box = (state_of s).box; allowance = s.allowance; lines = (state_of s).lines; accounts = accounts }) charged-accounts
-
-  pub charge_shape : Shape (charged_record s o n)
-  charge_shape = record {
+  charged-shape : Shape (charged_record s o n)
+  charged-shape = record {
     order = shape.order;
     allowance = shape.allowance;
     box = shape.box;
@@ -94,3 +89,14 @@ module _ (s : Inside) (shape : Shape s) (o n : ℕ) (room : can_charge (state_of
       paid = rw charged-accounts (let w = within in omega (arith, total-charged es o n));
     };
   }
+
+  module _ (entered : Bool) (after : List Account) (count : ℕ) (is : entered ≡ leb (length (charged es o n)) (length s.accounts))
+      (slice : after ≡ cond entered (over (charged es o n) s.accounts) s.accounts) (size : count ≡ cond entered (length (charged es o n)) s.offices) where
+    pub charge_shape : Shape (with_accounts s count after)
+    charge_shape = subst Shape (sym (after-charged entered after count is slice size)) charged-shape
+
+    pub charge-state : state_of (with_accounts s count after) ≡ charged_state t o n
+    charge-state =
+        ap state_of (after-charged entered after count is slice size)
+        ∙ ap (λ accounts. record { order = s.order; box = (state_of s).box; allowance = s.allowance; lines = (state_of s).lines; accounts = accounts }) charged-accounts
+        ∙ ap (λ u. charged_state u o n) seen

@@ -12,6 +12,7 @@ use Rattle.interval.specs.Kind.{KindMeaning}
 use Rattle.interval.proofs.GivenEnds.{inner_fits}
 use Rattle.interval.proofs.Orders.{value_le}
 use Rattle.taylor.proofs.Results.{and_then_ok, require_ok, require_yes}
+use Rattle.formula.specs.Inputs as inputs
 use Rattle.formula.specs.Work.{at_place}
 use Rattle.sheet.specs.Box.{Ends, box_of, given_ends}
 use Rattle.sheet.specs.State.{at_line}
@@ -25,16 +26,19 @@ pub record Good (S : ℕ) (e : Float × Float) : Type 0 where
   pub order : uncrossed e.0 e.1 ≡ true
   pub fit : fits (hull_ends S e.0 e.1) ≡ true
 
-pub tested_good : (S n : ℕ) (es : Ends) → ends_tested S n es ≡ Ok tt → AllByRecursion (Good S) es
-tested_good S n [] q = tt
-tested_good S n (e ∷ es) q =
+tests_good : (S n : ℕ) (es : Ends) → inputs.ends_tested S n es ≡ Ok tt → AllByRecursion (Good S) es
+tests_good S n [] q = tt
+tests_good S n (e ∷ es) q =
     let one = variable_of S e.0 e.1 in
-    let (v, p, rest) = and_then_ok (at_line 0 (at_place n one)) (λ _. ends_tested S (n + 1) es) q in
-    let made = at_place_ok n one (at_line_ok 0 (at_place n one) p) in
+    let (v, p, rest) = and_then_ok (at_place n one) (λ _. inputs.ends_tested S (n + 1) es) q in
+    let made = at_place_ok n one p in
     let (a, q1) = require_ok (both_finite e.0 e.1) EndNotFinite _ made in
     let (b, q2) = require_ok (uncrossed e.0 e.1) EndsCrossed _ q1 in
     let (c, q3) = require_ok (fits (hull_ends S e.0 e.1)) EndDoesNotFit _ q2 in
-    (record { finites = a; order = b; fit = c }, tested_good S (n + 1) es rest)
+    (record { finites = a; order = b; fit = c }, tests_good S (n + 1) es rest)
+
+pub tested_good : (S n : ℕ) (es : Ends) → ends_tested S n es ≡ Ok tt → AllByRecursion (Good S) es
+tested_good S n es q = tests_good S n es (at_line_ok 0 (inputs.ends_tested S n es) q)
 
 good_variable : (S : ℕ) (e : Float × Float) → Good S e → variable_of S e.0 e.1 ≡ Ok (variable S e.0 e.1)
 good_variable S e G =
@@ -42,10 +46,12 @@ good_variable S e G =
     ∙ require_yes (uncrossed e.0 e.1) EndsCrossed _ G.order
     ∙ require_yes (fits (hull_ends S e.0 e.1)) EndDoesNotFit _ G.fit
 
+good_tests : (S n : ℕ) (es : Ends) → AllByRecursion (Good S) es → inputs.ends_tested S n es ≡ Ok tt
+good_tests S n [] G = refl
+good_tests S n (e ∷ es) G = ap (λ r. and_then (at_place n r) (λ _. inputs.ends_tested S (n + 1) es)) (good_variable S e G.0) ∙ good_tests S (n + 1) es G.1
+
 pub good_tested : (S n : ℕ) (es : Ends) → AllByRecursion (Good S) es → ends_tested S n es ≡ Ok tt
-good_tested S n [] G = refl
-good_tested S n (e ∷ es) G =
-    ap (λ r. and_then (at_line 0 (at_place n r)) (λ _. ends_tested S (n + 1) es)) (good_variable S e G.0) ∙ good_tested S (n + 1) es G.1
+good_tested S n es G = ap (at_line 0) (good_tests S n es G)
 
 -- sound ends inside good ones are good
 pub narrowed_good : (S : ℕ) (a b x y : Float) → Good S (a, b) → sound_ends x y ≡ true → (not (lt x a) && not (lt b y)) ≡ true → Good S (x, y)

@@ -9,6 +9,7 @@ pub mod Turn
 pub mod Taking
 pub mod Records
 pub mod Shape
+pub mod Recorded
 pub mod Boxes
 pub mod Reached
 pub mod Running

@@ -1,11 +1,10 @@
 -- Opening a sheet. Assumes nothing.
-use Rattle.std.specs.Prelude.{ℕ, ◌+◌, [], ◌∷◌, length, Ok, Result}
+use Rattle.std.specs.Prelude.{ℕ, [], length, Ok, Result}
 use Rattle.interval.specs.declared.reason.Reason.TheVariants.{OrderOutOfRange, VariablesOutOfRange, AllowanceOutOfRange}
 use Rattle.interval.specs.declared.refusal.Refusal.{Refusal}
 use Rattle.interval.specs.Reason.{and_then, require}
-use Rattle.interval.specs.Variable.{variable_of}
 use Rattle.interval.specs.Kind.{KindMeaning}
-use Rattle.formula.specs.Work.{at_place}
+use Rattle.formula.specs.Inputs as inputs
 use Rattle.sheet.specs.Box.{Ends, box_of}
 use Rattle.sheet.specs.State.{State, from_to, refusal, at_line}
 
@@ -23,8 +22,7 @@ largest_allowance = 1_000_000_000
 
 -- each variable's ends from number n on are tested in turn; a refusal has the variable's number as its place
 abbrev pub ends_tested : ℕ → ℕ → Ends → Result Unit Refusal
-ends_tested S n [] = Ok tt
-ends_tested S n (e ∷ es) = and_then (at_line 0 (at_place n (variable_of S e.0 e.1))) (λ _. ends_tested S (n + 1) es)
+ends_tested S n es = at_line 0 (inputs.ends_tested S n es)
 
 -- a new sheet: the box, no lines and no accounts
 abbrev pub opened : KindMeaning → Opening → State

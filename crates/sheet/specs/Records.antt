@@ -7,7 +7,9 @@ use Rattle.table.specs.Slice as slice
 use Rattle.taylor.specs.declared.model.ModelRecord.{ModelRecord}
 use Rattle.taylor.specs.declared.worked.WorkedRecord.{WorkedRecord}
 use Rattle.taylor.specs.Model.{Model, packed, unpacked, zero_record}
+use Rattle.taylor.specs.Record.{packed_worked}
 use Rattle.taylor.specs.Product.{worked}
+use Rattle.formula.specs.Work.{no_variable}
 use Rattle.sheet.specs.declared.account.Account.{Account}
 use Rattle.sheet.specs.declared.line.LineRecord.{LineRecord}
 use Rattle.sheet.specs.declared.record.SheetRecord.TheInside.{Inside}
@@ -44,6 +46,22 @@ state_of s = record {
   allowance = s.allowance;
   lines = map line_of (standing_lines s);
   accounts = take s.offices s.accounts;
+}
+
+-- the record of a line, and that of a sheet: what is in use comes first, and nothing but zeros follows
+abbrev pub record_of_line : Line → LineRecord
+record_of_line l = recorded_line l.office l.text (packed_worked l.worked)
+
+abbrev pub record_of : State → Inside
+record_of s = record {
+  order = s.order;
+  allowance = s.allowance;
+  inputs = length s.box;
+  variables = slice.packed 6 no_variable s.box;
+  standing = length s.lines;
+  lines = slice.packed 12 zero_line (map record_of_line s.lines);
+  offices = length s.accounts;
+  accounts = slice.packed 8 (account 0 0) s.accounts;
 }
 
 -- that a reading is granted, or its refusal

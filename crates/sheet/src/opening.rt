@@ -9,7 +9,7 @@ ghost use Rattle.sheet.specs.Shape.{FitVariable};
 use crate::account::Account;
 use crate::line::LineRecord;
 use crate::record::SheetRecord;
-use crate::refusing::{is_from_to, refuse};
+use crate::refusing::refuse;
 use formula::Ends;
 use interval::{Kind, Reason, Refusal, Scale, Variable};
 
@@ -54,13 +54,13 @@ impl SheetRecord {
     ) -> Result<SheetRecord, Refusal>
         ensures value { result ≡ open_sheet (K.meaning kind.now) (opening order ends.now allowance) }
     {
-        if !is_from_to(1, 8, order) {
+        if !(1..=8).contains(&order) {
             return Err(refuse(Reason::OrderOutOfRange, 0));
         }
-        if !is_from_to(1, 6, ends.len() as u64) {
+        if !(1..=6).contains(&ends.len()) {
             return Err(refuse(Reason::VariablesOutOfRange, 0));
         }
-        if !is_from_to(1, 1_000_000_000, allowance) {
+        if !(1..=1_000_000_000).contains(&allowance) {
             return Err(refuse(Reason::AllowanceOutOfRange, 0));
         }
         let made = variables(kind.scale(), ends)?;

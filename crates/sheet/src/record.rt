@@ -6,6 +6,7 @@ use std::marker::Model;
 
 // Each array is in use up to its count: the variables to `inputs`, the lines to `standing`, the accounts to `offices`.
 // A sheet has fixed memory, so these are arrays with counts and no `Vec`.
+#[derive(Clone, Copy)]
 pub struct SheetRecord {
     pub order: u32,
     pub allowance: u64,
@@ -23,10 +24,15 @@ impl Model for SheetRecord {
 
     ghost Value = { State };
 
-    ghost use Rattle.sheet.specs.Records.{state_of};
+    ghost use Rattle.sheet.specs.Records.{state_of, record_of};
     ghost use Rattle.sheet.specs.Shape.{Shape};
+    ghost use Rattle.sheet.specs.Recorded.{same_record};
 
     ghost view = { state_of };
 
     ghost invariant = { Shape };
+
+    ghost inverse = { record_of };
+
+    ghost inverse_ok = { same_record };
 }

@@ -1,6 +1,6 @@
 // Refusals of a sheet, and what several turns test.
 ghost use Rattle.std.specs.Prelude.{◌≡◌};
-ghost use Rattle.sheet.specs.State.{refusal, from_to, known_office};
+ghost use Rattle.sheet.specs.State.{refusal, known_office};
 
 use interval::{Reason, Refusal};
 
@@ -15,14 +15,9 @@ pub fn refuse(reason: Reason, number: u64) -> Refusal
     }
 }
 
-pub fn is_from_to(low: u64, high: u64, number: u64) -> bool
-    ensures value { result ≡ from_to low high number }
-{
-    low <= number && number <= high
-}
-
+// The offices are 1 to 255.
 pub fn is_known_office(office: u64) -> bool
     ensures value { result ≡ known_office office }
 {
-    is_from_to(1, 255, office)
+    (1..=255).contains(&office)
 }
