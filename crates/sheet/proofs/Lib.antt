@@ -26,4 +26,3 @@ mod Additions
 mod Boxing
 mod Openings
 mod Marks
-mod Looking

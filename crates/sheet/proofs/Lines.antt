@@ -1,8 +1,8 @@
 -- The lines of a record: how many stand, which they are, and what striking and adding leave. Assumes nothing.
 use Rattle.std.proofs.Common.{◌≡◌, ℕ, ◌+◌, ◌-◌, ◌<◌, ◌≤◌, List, [], ◌∷◌, ◌++◌, map, length, get_or, take, set, sym, refl, ap, ◌∙◌, subst, arith}
-use Rattle.std.proofs.lemmas.List.{length-map, take-set, take-take, take-map, take_at, take_more_set, map_push, get_or-map, get_or-take}
+use Rattle.std.proofs.lemmas.List.{length-map, take-set, take-take, take-map, take_at, take_more_set, get_or-map, get_or-take}
 use Rattle.std.specs.List.{AllByRecursion}
-use Rattle.std.proofs.ByRecursion.{All-get_or, All-take, All-push}
+use Rattle.std.proofs.ByRecursion.{All-take, All-push}
 use Rattle.table.proofs.Packing.{packs_long}
 use Rattle.interval.specs.Interval.{limit}
 use Rattle.taylor.specs.declared.worked.WorkedRecord.{WorkedRecord}
@@ -30,9 +30,6 @@ module _ (count : ℕ) (ls : List LineRecord) (shape : LinesShape count ls) wher
   pub lines_long : length ls ≡ 12
   lines_long = packs_long 12 zero_line ls count (take count ls) shape.packs
 
-  pub lines-within : count ≤ 12
-  lines-within = let s = shape.packs.size in let f = shape.packs.fits in omega arith
-
   pub lines-count : length (map line_of (take count ls)) ≡ count
   lines-count = length-map (take count ls) line_of ∙ sym shape.packs.size
 
@@ -41,12 +38,6 @@ module _ (count : ℕ) (ls : List LineRecord) (shape : LinesShape count ls) wher
   line-there n d e h =
       let s = shape.packs.size in
       get_or-map line_of (take count ls) n d e (omega arith) ∙ ap line_of (get_or-take count ls n d h)
-
-  -- its record keeps the shape of a line
-  pub line_shape : (n : ℕ) (d : LineRecord) → n < count → LineShape (get_or ls n d)
-  line_shape n d h =
-      let s = shape.packs.size in
-      subst LineShape (get_or-take count ls n d h) (All-get_or LineShape (take count ls) n d (omega arith) shape.each)
 
   -- the newest becomes zero
   module _ (h : 0 < count) where
@@ -63,9 +54,6 @@ module _ (count : ℕ) (ls : List LineRecord) (shape : LinesShape count ls) wher
 
   -- one is added last
   module _ (l : LineRecord) (h : count < 12) where
-    pub added-lines : map line_of (take (count + 1) (set ls count l)) ≡ map line_of (take count ls) ++ (line_of l ∷ [])
-    added-lines = let long = lines_long in ap (map line_of) (take_more_set ls count l (omega arith)) ∙ map_push line_of (take count ls) l
-
     pub added_shape : LineShape l → LinesShape (count + 1) (set ls count l)
     added_shape formed =
         let long = lines_long in

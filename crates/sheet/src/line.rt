@@ -1,7 +1,8 @@
 // The record of a line.
 ghost use Rattle.std.specs.Prelude.{◌≡◌, ◌≤◌, length};
+ghost use Rattle.interval.specs.Interval.{limit};
 ghost use Rattle.table.specs.Slice.{packed};
-ghost use Rattle.taylor.specs.Record.{worked_of};
+ghost use Rattle.taylor.specs.Record.{worked_of, Held};
 ghost use Rattle.sheet.specs.Records.{zero_line, line_of, recorded_line};
 ghost use Rattle.sheet.specs.Shape.{LineShape};
 ghost use Rattle.sheet.specs.State.{line};
@@ -9,6 +10,7 @@ ghost use Rattle.sheet.specs.State.{line};
 use taylor::{ModelRecord, WorkedRecord};
 
 // The office that posted it, `length` bytes of text with zeros after them, and what the text gave.
+// A sheet has fixed memory, so the text is an array with a length and no `Vec`. `LineShape` is no invariant of it: the zero record has no text.
 #[derive(Clone, Copy)]
 pub struct LineRecord {
     pub office: u64,
@@ -50,6 +52,7 @@ impl LineRecord {
         requires { length posted.now ≤ 255 }
         ensures value { result ≡ recorded_line office posted.now worked.now }
         ensures holds { line_of result ≡ line office posted.now (worked_of worked.now) }
+        ensures formed { 1 ≤ length posted.now → Held limit worked.now.model → LineShape result }
     {
         LineRecord {
             office,
