@@ -1,20 +1,17 @@
 -- The variables of a record, made one after the other. Assumes nothing.
-use Rattle.std.proofs.Common.{◌≡◌, ℕ, ◌+◌, ◌<◌, ◌≤◌, List, [], ◌∷◌, ◌++◌, length, get_or, take, drop, set, Ok, Err, Result, sym, refl, ap, ◌∙◌, subst, arith}
+use Rattle.std.proofs.Common.{◌≡◌, ℕ, ◌+◌, ◌<◌, ◌≤◌, List, [], ◌∷◌, ◌++◌, length, get_or, take, drop, set, Ok, Result, sym, ap, ◌∙◌, subst, arith}
 use lib.Ieee.{Float}
 use Rattle.std.specs.List.{AllByRecursion}
-use Rattle.std.specs.Result.{MatchResult}
 use Rattle.std.proofs.ByRecursion.{All-push}
-use Rattle.std.proofs.lemmas.List.{at_drop_more, at_drop_all, map_more, take_all}
+use Rattle.std.proofs.lemmas.List.{at_drop_more, map_more}
 use Rattle.interval.specs.declared.reason.Reason.{Reason}
-use Rattle.interval.specs.declared.refusal.Refusal.{Refusal}
 use Rattle.interval.specs.declared.variable.Variable.{Variable}
 use Rattle.interval.specs.Reason.{and_then}
 use Rattle.interval.specs.Variable.{variable, variable_of, Sound}
-use Rattle.table.specs.Slice.{packed, Packs}
+use Rattle.table.specs.Slice.{Packs}
 use Rattle.formula.specs.Inputs.{ends_tested}
 use Rattle.formula.specs.Work.{no_variable, at_place}
-use Rattle.sheet.specs.State.{refusal, at_line}
-use Rattle.sheet.specs.Boxes.{boxed, made_box}
+use Rattle.sheet.specs.Boxes.{boxed}
 use Rattle.sheet.specs.Shape.{FitVariable}
 use Rattle.formula.proofs.Enclosing.{accepted_is}
 use Rattle.sheet.proofs.Slices.{packs-push}
@@ -25,9 +22,6 @@ module _ (S : ℕ) (ends : List (Float × Float)) where
     pub tested : ends_tested S i (drop i ends) ≡ ends_tested S 0 ends
     pub packs : Packs 6 no_variable made i (boxed S (take i ends))
     pub fit : AllByRecursion FitVariable (boxed S (take i ends))
-
-  pub boxing_none : Boxing 0 (packed 6 no_variable [])
-  boxing_none = record { tested = refl; packs = record { whole = refl; size = refl; fits = omega arith }; fit = tt }
 
   module _ (i : ℕ) (made : List Variable) (b : Boxing i made) (d : Float × Float) (h : i < length ends) where
     -- what is left begins with ends i
@@ -46,23 +40,3 @@ module _ (S : ℕ) (ends : List (Float × Float)) where
           packs = subst (Packs 6 no_variable (set made i v) (i + 1)) more (packs-push 6 no_variable made i (boxed S (take i ends)) v b.packs (omega arith));
           fit = subst (AllByRecursion FitVariable) more (All-push FitVariable (boxed S (take i ends)) v b.fit (record { centre = sound.centre; half = sound.half }));
         }
-
-    boxing_stops : (e : Reason) → Err e ≡ variable_of S (get_or ends i d).0 (get_or ends i d).1 → Err (refusal e 0 i) ≡ made_box S ends
-    boxing_stops e is = sym (ap (λ r. and_then (at_line 0 r) (λ _. Ok (packed 6 no_variable (boxed S ends)))) (next (Err e) is))
-
-    -- the refusal of ends i is that of all
-    pub boxing-refused : (r : Result Variable Reason) → r ≡ variable_of S (get_or ends i d).0 (get_or ends i d).1 → (f : Refusal) → MatchResult r (λ v. ⊥) (λ e. f ≡ refusal e 0 i) → Err f ≡ made_box S ends
-    boxing-refused (Ok v) is f q = absurd q
-    boxing-refused (Err e) is f q = ap Err q ∙ boxing_stops e is
-
-  module _ (i : ℕ) (made : List Variable) (b : Boxing i made) (h : length ends ≤ i) where
-    all_taken : take i ends ≡ ends
-    all_taken = take_all i ends h
-
-    pub boxing_all : Ok made ≡ made_box S ends
-    boxing_all =
-        ap Ok (b.packs.whole ∙ ap (λ es. packed 6 no_variable (boxed S es)) all_taken)
-        ∙ sym (ap (λ r. and_then (at_line 0 r) (λ _. Ok (packed 6 no_variable (boxed S ends)))) (sym b.tested ∙ at_drop_all (ends_tested S i) ends i h))
-
-    pub boxing_fit : AllByRecursion FitVariable (boxed S ends)
-    boxing_fit = subst (λ es. AllByRecursion FitVariable (boxed S es)) all_taken b.fit

@@ -1,29 +1,14 @@
 -- The lines of a record: how many stand, which they are, and what striking and adding leave. Assumes nothing.
-use Rattle.std.proofs.Common.{◌≡◌, ℕ, ◌+◌, ◌-◌, ◌<◌, ◌≤◌, List, [], ◌∷◌, ◌++◌, map, length, get_or, take, set, sym, refl, ap, ◌∙◌, subst, arith}
-use Rattle.std.proofs.lemmas.List.{length-map, take-set, take-take, take-map, take_at, take_more_set, get_or-map, get_or-take}
+use Rattle.std.proofs.Common.{◌≡◌, ℕ, ◌+◌, ◌-◌, ◌<◌, List, [], ◌∷◌, ◌++◌, map, length, get_or, take, set, sym, ap, ◌∙◌, subst, arith}
+use Rattle.std.proofs.lemmas.List.{length-map, take-set, take-take, take-map, take_more_set, get_or-map, get_or-take}
 use Rattle.std.specs.List.{AllByRecursion}
 use Rattle.std.proofs.ByRecursion.{All-take, All-push}
 use Rattle.table.proofs.Packing.{packs_long}
-use Rattle.interval.specs.Interval.{limit}
-use Rattle.taylor.specs.declared.worked.WorkedRecord.{WorkedRecord}
-use Rattle.taylor.specs.Record.{Held, worked_of}
 use Rattle.sheet.specs.declared.line.LineRecord.{LineRecord}
-use Rattle.sheet.specs.State.{Line, line}
-use Rattle.sheet.specs.Records.{zero_line, line_of, recorded_line}
+use Rattle.sheet.specs.State.{Line}
+use Rattle.sheet.specs.Records.{zero_line, line_of}
 use Rattle.sheet.specs.Shape.{LineShape, LinesShape}
 use Rattle.sheet.proofs.Slices.{packs_own, packs-push, packs_pop}
-
--- ---- one line
--- its record holds it
-pub recorded-holds : (office : ℕ) (text : List ℕ) (w : WorkedRecord) → line_of (recorded_line office text w) ≡ line office text (worked_of w)
-recorded-holds office text w = ap (λ t. line office t (worked_of w)) (take_at text _ (length text) refl)
-
-pub recorded_shape : (office : ℕ) (text : List ℕ) (w : WorkedRecord) → 1 ≤ length text → length text ≤ 255 → Held limit w.model → LineShape (recorded_line office text w)
-recorded_shape office text w low high h = record {
-  size = record { low = low; high = high };
-  text = packs_own 255 0 _ _ text (record { whole = refl; size = refl; fits = high });
-  model = h;
-}
 
 -- ---- the lines
 module _ (count : ℕ) (ls : List LineRecord) (shape : LinesShape count ls) where

@@ -1,7 +1,7 @@
 -- The lines that use a variable, marked one after the other. Assumes nothing.
 use Rattle.std.proofs.Common.{◌≡◌, ℕ, ◌+◌, ◌-◌, ◌<◌, ◌≤◌, Bool, false, List, [], ◌∷◌, ◌++◌, map, length, get_or, take, set, sym, refl, ap, ◌∙◌, subst, ap₂, arith}
 use native.Mathlib.Nat.{sub-zero}
-use Rattle.std.proofs.lemmas.List.{length-map, length-set, take_more, take_all, get_or-map}
+use Rattle.std.proofs.lemmas.List.{length-map, length-set, take_more, get_or-map}
 use Rattle.table.specs.Slice.{packed, Packs}
 use Rattle.table.proofs.Packing.{packs_front}
 use Rattle.formula.specs.Meaning.{by_line, any_uses, uses}
@@ -57,6 +57,3 @@ module _ (rs : List LineRecord) (v : ℕ) where
           long = length-set marks n used ∙ m.long;
           packs = subst (Packs 12 false (set marks n used) (n + 1)) more (packs-push 12 false marks n (uses v (take n (texts ls))) used m.packs (omega arith));
         }
-
-  pub marked_all : (n : ℕ) (marks : List Bool) → Marked ls v n marks → length rs ≤ n → marks ≡ packed 12 false (uses v (texts ls))
-  marked_all n marks m h = let c = count in m.packs.whole ∙ ap (λ ts. packed 12 false (uses v ts)) (take_all n (texts ls) (omega arith))

@@ -1,17 +1,17 @@
 -- The range of a model's polynomial can be asked for, and added to the remainder. Assumes nothing.
-use Rattle.std.proofs.Common.{◌≡◌, ℕ, ◌+◌, ◌-◌, ◌*◌, List, [], ◌∷◌, length, take, ap, ◌∙◌, suc-mul, arith}
+use Rattle.std.proofs.Common.{◌≡◌, ℕ, ◌+◌, ◌-◌, ◌*◌, List, [], ◌∷◌, length, take, ap, suc-mul, arith}
 use native.Mathlib.Nat.{sub-zero}
 use Rattle.std.specs.List.{AllByRecursion}
 use Rattle.std.proofs.ByRecursion.{All-weaker}
 use Rattle.std.proofs.lemmas.Int.{ints}
 use Rattle.interval.specs.declared.marks.Interval.{Interval}
-use Rattle.interval.specs.Interval.{limit, Sized, Summable, plus}
+use Rattle.interval.specs.Interval.{limit, Sized, Summable}
 use Rattle.interval.proofs.Sizes.{sized_weaken, sized-plus}
 use Rattle.polynomial.specs.declared.term.Term.{Term}
 use Rattle.polynomial.specs.Method.{MethodMeaning, Polynomial, FitTerm, plain}
 use Rattle.ranging.proofs.Adding.{reach-sized}
 use Rattle.taylor.specs.declared.model.ModelRecord.{ModelRecord}
-use Rattle.taylor.specs.Model.{unpacked, full_range}
+use Rattle.taylor.specs.Model.{unpacked}
 use Rattle.taylor.specs.Record.{Held}
 use Rattle.taylor.proofs.Bounds.{range-order}
 use Rattle.taylor.proofs.Tests.{normal_polynomial}
@@ -43,6 +43,3 @@ module _ (m : MethodMeaning) where
 
     pub lent_summable : (i : Interval) → i ≡ m.range (take (r.count - 0) r.terms) → Summable i × Summable r.remainder
     lent_summable i e = (rw e (range-sized _ lent_polynomial), sized_weaken (omega arith) h.sized.remainder)
-
-    pub lent_range : (i j : Interval) → i ≡ m.range (take (r.count - 0) r.terms) → j ≡ plus i r.remainder → j ≡ full_range m (unpacked r)
-    lent_range i j e is = is ∙ ap (λ k. plus k r.remainder) (e ∙ ap m.range lent_all)
