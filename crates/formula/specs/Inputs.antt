@@ -15,9 +15,13 @@ from_to a b n = nat_le a n && nat_le n b
 abbrev pub Ends : Type 0
 Ends = Float × Float
 
+-- a variable of each two ends, at a scale
+abbrev pub boxed : ℕ → List Ends → List Variable
+boxed S ends = map (λ e. variable S e.0 e.1) ends
+
 -- the box that the ends make at the kind's scale: a centre and a half width of each variable
 abbrev pub box_of : KindMeaning → List Ends → List Variable
-box_of k ends = map (λ e. variable k.scale e.0 e.1) ends
+box_of k ends = boxed k.scale ends
 
 -- the ends that a box was made from
 abbrev pub given_ends : List Variable → List Ends

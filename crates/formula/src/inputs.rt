@@ -1,4 +1,4 @@
 // What a formula is given.
 
-// The lower and the upper end of a variable, as given.
+// The lower and the upper end of a variable, as given. A pair and no struct: both are only ever taken together.
 pub type Ends = (f64, f64);

@@ -1,18 +1,10 @@
 // Whether an office can be charged, and charging it.
-ghost use Rattle.std.specs.Prelude.{◌≡◌, ◌^◌, ◌<◌, true, sum_by};
+ghost use Rattle.std.specs.Prelude.{◌≡◌, true, sum_by};
 ghost use Rattle.sheet.specs.State.{can_charge, affordable, charged_state};
 
 use crate::account::Account;
 use crate::record::SheetRecord;
 use table::{Table, search};
-
-// The pairs of all accounts.
-fn pairs_charged(accounts: &[Account]) -> u64
-    requires { sum_by (λ a. a.pairs) accounts.now < 2 ^ 64 }
-    ensures value { result ≡ sum_by (λ a. a.pairs) accounts.now }
-{
-    accounts.iter().map(|entry| entry.pairs).sum()
-}
 
 impl SheetRecord {
     // The office has an account, or one can be opened.
@@ -22,11 +14,21 @@ impl SheetRecord {
         search(&self.accounts[0..self.offices], office).found || self.offices < 8
     }
 
+    // The pairs of all accounts.
+    fn pairs_charged(&self) -> u64
+        ensures value { result ≡ sum_by (λ a. a.pairs) self.now.accounts }
+    {
+        self.accounts[0..self.offices]
+            .iter()
+            .map(|entry| entry.pairs)
+            .sum()
+    }
+
     // With these pairs and those of all accounts the allowance is not passed.
     pub fn is_affordable(&self, pairs: u64) -> bool
         ensures value { result ≡ affordable self.now pairs }
     {
-        pairs <= self.allowance - pairs_charged(&self.accounts[0..self.offices])
+        pairs <= self.allowance - self.pairs_charged()
     }
 
     // The pairs are added to the office's account, which is opened if there is none.

@@ -27,7 +27,7 @@ const NO_ACCOUNT: Account = Account {
     pairs: 0,
 };
 
-// The variables that the ends make, one after the other; a refusal has the variable's number as its place.
+// The variables that the ends make, one after the other; a refusal has the variable's number as its place, so the loop counts it.
 fn variables(scale: Scale, ends: &[Ends]) -> Result<[Variable; 6], Refusal>
     requires { length ends.now ≤ 6 }
     ensures value { result ≡ made_box (per_unit scale) ends.now }
