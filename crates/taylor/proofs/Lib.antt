@@ -28,3 +28,4 @@ pub mod Questions
 pub mod Operands
 pub mod Multiplied
 pub mod Raised
+pub mod Ranges

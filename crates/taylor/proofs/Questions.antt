@@ -1,9 +1,9 @@
 -- The test of a model, question by question. Assumes nothing.
-use Rattle.std.proofs.Common.{◌≡◌, ◌-◌, true, false, List, take, Ok, Err, sym, refl, ap, ◌∙◌, arith}
-use native.Mathlib.Nat.{sub-zero}
+use Rattle.std.proofs.Common.{◌≡◌, true, false, List, Ok, Err, refl, arith}
 use Rattle.interval.specs.declared.reason.Reason.TheVariants.{DoesNotFit}
+use Rattle.interval.specs.declared.marks.Interval.{Interval}
 use Rattle.interval.specs.Interval.{Summable, fits, plus}
-use Rattle.interval.proofs.Sizes.{sized_weaken, fits-sized}
+use Rattle.interval.proofs.Sizes.{sized_weaken}
 use Rattle.polynomial.specs.declared.term.Term.{Term}
 use Rattle.polynomial.specs.Method.{MethodMeaning, Polynomial}
 use Rattle.polynomial.specs.Terms.{all_fit}
@@ -12,49 +12,41 @@ use Rattle.taylor.specs.Model.{unpacked, tested}
 use Rattle.taylor.specs.Keeping.{room}
 use Rattle.taylor.specs.Record.{Held, passed}
 use Rattle.taylor.proofs.Tests.{normal_polynomial, coefficients-fit}
-use Rattle.taylor.proofs.Bounds.{range-order}
+use Rattle.taylor.proofs.Ranges.{range-summable}
 
 module _ (m : MethodMeaning) (r : ModelRecord) where
-  -- the terms as they are lent
-  abbrev lent : List Term
-  lent = take (r.count - 0) r.terms
+  abbrev ts : List Term
+  ts = (unpacked r).terms
 
-  lent_all : lent ≡ (unpacked r).terms
-  lent_all = ap (λ n. take n r.terms) (sub-zero r.count)
-
-  pub unfit_coefficients : all_fit lent ≡ false → Err DoesNotFit ≡ passed (tested m (unpacked r))
+  pub unfit_coefficients : all_fit ts ≡ false → Err DoesNotFit ≡ passed (tested m (unpacked r))
   unfolding tested
-  unfit_coefficients a = rw (ap all_fit (sym lent_all) ∙ a) refl
+  unfit_coefficients a = rw a refl
 
-  module _ (a : all_fit lent ≡ true) where
+  module _ (a : all_fit ts ≡ true) where
     pub unfit_remainder : fits r.remainder ≡ false → Err DoesNotFit ≡ passed (tested m (unpacked r))
     unfolding tested
-    unfit_remainder b = rw (ap all_fit (sym lent_all) ∙ a, b) refl
+    unfit_remainder b = rw (a, b) refl
 
     module _ (b : fits r.remainder ≡ true) where
-      pub unfit_range : fits (m.range lent) ≡ false → Err DoesNotFit ≡ passed (tested m (unpacked r))
+      pub unfit_range : fits (m.range ts) ≡ false → Err DoesNotFit ≡ passed (tested m (unpacked r))
       unfolding tested
-      unfit_range c = rw (ap all_fit (sym lent_all) ∙ a, b, ap (λ ts. fits (m.range ts)) (sym lent_all) ∙ c) refl
+      unfit_range c = rw (a, b, c) refl
 
-      module _ (c : fits (m.range lent) ≡ true) where
-        pub unfit_whole : fits (plus (m.range lent) r.remainder) ≡ false → Err DoesNotFit ≡ passed (tested m (unpacked r))
+      module _ (c : fits (m.range ts) ≡ true) where
+        pub unfit_whole : fits (plus (m.range ts) r.remainder) ≡ false → Err DoesNotFit ≡ passed (tested m (unpacked r))
         unfolding tested
-        unfit_whole d = rw (ap all_fit (sym lent_all) ∙ a, b, ap (λ ts. fits (m.range ts)) (sym lent_all) ∙ c, ap (λ ts. fits (plus (m.range ts) r.remainder)) (sym lent_all) ∙ d) refl
+        unfit_whole d = rw (a, b, c, d) refl
 
-        pub fit-whole : fits (plus (m.range lent) r.remainder) ≡ true → Ok tt ≡ passed (tested m (unpacked r))
+        pub fit-whole : fits (plus (m.range ts) r.remainder) ≡ true → Ok tt ≡ passed (tested m (unpacked r))
         unfolding tested
-        fit-whole d = rw (ap all_fit (sym lent_all) ∙ a, b, ap (λ ts. fits (m.range ts)) (sym lent_all) ∙ c, ap (λ ts. fits (plus (m.range ts) r.remainder)) (sym lent_all) ∙ d) refl
+        fit-whole d = rw (a, b, c, d) refl
 
-  module _ (h : Held room r) (a : all_fit lent ≡ true) where
-    -- a method may be asked
-    pub lent_polynomial : Polynomial lent
-    lent_polynomial =
-        let N = h.canonical.normal in
-        rw lent_all (normal_polynomial m (unpacked r) N (coefficients-fit m (unpacked r).terms N.each (ap all_fit (sym lent_all) ∙ a)))
+  -- a method may be asked
+  pub fit_polynomial : Held room r → all_fit ts ≡ true → Polynomial ts
+  fit_polynomial h a =
+      let N = h.canonical.normal in
+      normal_polynomial m (unpacked r) N (coefficients-fit m ts N.each a)
 
-    -- its range, where it fits, can be added to the remainder
-    pub range-fits : fits (m.range lent) ≡ true → Summable (m.range lent)
-    range-fits c = sized_weaken (omega arith) (fits-sized (range-order m lent lent_polynomial) c)
-
-  pub remainder_adds : Held room r → Summable r.remainder
-  remainder_adds h = sized_weaken (omega arith) h.sized.remainder
+  -- its range can be added to the remainder
+  pub range_adds : Held room r → all_fit ts ≡ true → {i : Interval} → i ≡ m.range ts → Summable i × Summable r.remainder
+  range_adds h a e = (rw e (range-summable m ts (fit_polynomial h a)), sized_weaken (omega arith) h.sized.remainder)

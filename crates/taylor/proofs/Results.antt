@@ -1,5 +1,5 @@
--- What is known where a result was not refused. Assumes nothing.
-use Rattle.std.proofs.Common.{◌≡◌, Bool, true, false, Ok, Err, Result, sym, refl, subst}
+-- What is known where a result was refused, and where it was not. Assumes nothing.
+use Rattle.std.proofs.Common.{◌≡◌, Bool, true, false, Ok, Err, Result, IsErrAnd, sym, refl, ap, subst}
 use Rattle.interval.specs.Reason.{and_then, require}
 
 abbrev Accepted : {A E : Type 0} → Result A E → Type 0
@@ -12,6 +12,11 @@ same-value e = cc
 -- a refusal is no answer
 pub not_refused : {A E : Type 0} {x : A} {e : E} → ◌≡◌ {A = Result A E} (Err e) (Ok x) → ⊥
 not_refused q = subst Accepted (sym q) tt
+
+-- what ? passes on is the refusal that it met
+pub passed_on : {A E : Type 0} (r : Result A E) {e : E} → IsErrAnd r (λ d. d ≡ e) → r ≡ Err e
+passed_on (Ok x) h = absurd h
+passed_on (Err d) h = ap Err h
 
 pub and_then_ok : {A B E : Type 0} (r : Result A E) (f : A → Result B E) {y : B} → and_then r f ≡ Ok y → (x : A) × (r ≡ Ok x) × (f x ≡ Ok y)
 and_then_ok (Ok x) f q = (x, refl, q)

@@ -1,9 +1,9 @@
 -- Terms enter the places of a record one after the other: what then stands there, and when there is no room. Assumes nothing.
-use Rattle.std.proofs.Common.{◌≡◌, ℕ, ◌+◌, ◌-◌, ◌*◌, ◌^◌, ◌<◌, ◌≤◌, Bool, true, false, cond, leb, List, [], ◌∷◌, ◌++◌, map, length, get_or, take, drop, set, replicate, Some, None, Ok, Err, Option, Result, sym, refl, ap, ◌∙◌, subst, arith}
-use native.Mathlib.Nat.{sub-zero}
+use Rattle.std.proofs.Common.{◌≡◌, ℕ, ◌+◌, ◌-◌, ◌*◌, ◌^◌, ◌<◌, ◌≤◌, Bool, true, false, cond, leb, List, [], ◌∷◌, ◌++◌, map, length, get_or, take, drop, set, replicate, Some, None, is_some, Ok, Err, Option, Result, if◌then◌else◌, sym, refl, ap, ◌∙◌, subst, ap₂, arith}
+use Rattle.std.specs.Option.{ok_or}
 use Rattle.std.specs.List.{AllByRecursion}
 use Rattle.std.proofs.ByRecursion.{All-weaker, All-get_or}
-use Rattle.std.proofs.lemmas.List.{at_drop_more, at_drop_all, drop_at, length-set, get_or_default, get_or-append_right, get_or-drop, get_or-take, length-map, length-take-le}
+use Rattle.std.proofs.lemmas.List.{at_drop_more, at_drop_all, drop_at, take_all, drop_all, append-nil, get_or_default, get_or-append_right, get_or-drop, get_or-take, length-map, length-take-le}
 use Rattle.std.proofs.lemmas.List.Edits.{map_over_more}
 use Rattle.std.proofs.lemmas.Bool.{leb-true, leb-false, lt-leb, le-leb}
 use Rattle.interval.specs.declared.marks.Interval.{Interval}
@@ -41,6 +41,14 @@ counted n many false e = let z : ◌≡◌ {A = Option ℕ} (Some n) None = e in
 uncounted : (many : ℕ) (b : Bool) → None ≡ cond b (Some many) None → b ≡ false
 uncounted many true e = let z : ◌≡◌ {A = Bool} true false = cc in z
 uncounted many false e = refl
+
+-- the answer o to entering, where it is a number
+pub entered_some : {o : Option ℕ} {n : ℕ} {after : List Term} (full terms : List Term) → o ≡ Some n → after ≡ (if is_some o then full else terms) → after ≡ full
+entered_some full terms e is = is ∙ ap (λ q. if is_some q then full else terms) e
+
+-- and where it is none, the reason is the one given
+pub entered_none : {o : Option ℕ} {e d : Reason} → o ≡ None → Err e ≡ ok_or o d → e ≡ d
+entered_none {e = e} {d = d} n h = let q : ◌≡◌ {A = Result ℕ Reason} (Err e) (Err d) = h ∙ ap (λ p. ok_or p d) n in cc
 
 module _ (terms : List Term) (count : ℕ) (ts : List Term) (p : Places terms count ts) (t : Term) where
   with_front : with_term (take count terms) t ≡ with_term ts t
@@ -131,58 +139,47 @@ module _ (M N : Model) where
 operand : (r : ModelRecord) → Held limit r → Formed 8 limit (unpacked r)
 operand r h = record { normal = h.canonical.normal; degrees = h.canonical.degrees; sized = h.sized }
 
-pub adding_start : (a b : ModelRecord) → Held limit a → Held limit b →
-    let more = take (b.count - 0) b.terms in
-    Adding more (joins (unpacked a).terms (unpacked b).terms) 0 a.terms a.count
-adding_start a b A B =
-    let front : take (b.count - 0) b.terms ≡ take b.count b.terms = ap (λ n. take n b.terms) (sub-zero b.count) in
-    record {
-      long = packs_long 40 _ a.terms a.count _ A.canonical.packs;
-      places = A.canonical.packs;
-      rest = ap (joins (unpacked a).terms) front;
-      draft = formed_draft (operand a A);
-      few = omega (arith, ap length front, B.canonical.normal.few);
-      each = rw front (formed_draft (operand b B)).each;
-    }
+pub adding_start : (a b : ModelRecord) {more : List Term} → Held limit a → Held limit b → more ≡ (unpacked b).terms → Adding more (joins (unpacked a).terms (unpacked b).terms) 0 a.terms a.count
+adding_start a b {more} A B is = record {
+  long = packs_long 40 _ a.terms a.count _ A.canonical.packs;
+  places = A.canonical.packs;
+  rest = ap (joins (unpacked a).terms) is;
+  draft = formed_draft (operand a A);
+  few = omega (arith, ap length is, B.canonical.normal.few);
+  each = rw is (formed_draft (operand b B)).each;
+}
 
 -- ---- the other sign, term by term in place
 module _ (r : ModelRecord) (h : Held limit r) where
-  pub places_long : length r.terms ≡ 40
-  places_long = packs_long 40 _ r.terms r.count _ h.canonical.packs
+  abbrev ts : List Term
+  ts = (unpacked r).terms
 
-  low : r.count ≤ length r.terms
-  low = let p = h.canonical.packs in omega (arith, p.size, p.fits, places_long)
+  module _ (us : List Term) (i : ℕ) (is : us ≡ map opposite (take i ts) ++ drop i ts) where
+    -- past what is turned, the terms are as they were
+    unturned : (d : Term) → i < length ts → get_or us i d ≡ get_or ts i d
+    unturned d less =
+        let size : length (map opposite (take i ts)) ≡ i = length-map (take i ts) opposite ∙ length-take-le i ts (omega arith) in
+        ap (λ vs. get_or vs i d) is ∙ get_or-append_right (map opposite (take i ts)) (drop i ts) i i d size (omega arith)
+        ∙ get_or-drop i ts (i - i) d ∙ ap (λ n. get_or ts n d) (omega arith)
 
-  -- past what is turned, the terms are as they were
-  unturned : (ys : List Term) (i : ℕ) (d : Term) → i ≤ length r.terms → ys ≡ map opposite (take i r.terms) ++ drop i r.terms → get_or ys i d ≡ get_or r.terms i d
-  unturned ys i d le is =
-      let size : length (map opposite (take i r.terms)) ≡ i = length-map (take i r.terms) opposite ∙ length-take-le i r.terms le in
-      ap (λ us. get_or us i d) is ∙ get_or-append_right (map opposite (take i r.terms)) (drop i r.terms) i i d size (omega arith)
-      ∙ get_or-drop i r.terms (i - i) d ∙ ap (λ n. get_or r.terms n d) (omega arith)
+    pub turnable : (d : Term) → i < length ts → Summable (get_or us i d).coefficient
+    turnable d less =
+        subst (λ (u : Term). Summable u.coefficient) (sym (unturned d less)) (summable (omega arith) (All-get_or (λ u. Sized limit u.coefficient) ts i d less h.sized.coefficients))
 
-  pub turnable : (ys : List Term) (i : ℕ) (d : Term) → i < r.count → ys ≡ map opposite (take i r.terms) ++ drop i r.terms → Summable (get_or ys i d).coefficient
-  turnable ys i d less is =
-      let le : i ≤ length r.terms = omega (arith, low) in
-      let front : get_or ys i d ≡ get_or (take r.count r.terms) i d = unturned ys i d le is ∙ sym (get_or-take r.count r.terms i d less) in
-      let long : i < length (take r.count r.terms) = omega (arith, h.canonical.packs.size) in
-      subst (λ (u : Term). Summable u.coefficient) (sym front) (summable (omega arith) (All-get_or (λ u. Sized limit u.coefficient) (take r.count r.terms) i d long h.sized.coefficients))
+    pub turned_more : (d : Term) {t : Term} → length us ≡ length ts → i < length ts → t ≡ opposite (get_or us i d) → set us i t ≡ map opposite (take (i + 1) ts) ++ drop (i + 1) ts
+    turned_more d long less e = ap (set us i) e ∙ map_over_more opposite ts us i (get_or us i d) less is (get_or_default us i d (get_or us i d) (omega (arith, long)))
 
-  pub turned_more : (ys : List Term) (i : ℕ) (d t : Term) → i < r.count → (length ys ≡ 40) × (ys ≡ map opposite (take i r.terms) ++ drop i r.terms) → t ≡ opposite (get_or ys i d)
-      → (length (set ys i t) ≡ 40) × (set ys i t ≡ map opposite (take (i + 1) r.terms) ++ drop (i + 1) r.terms)
-  turned_more ys i d t less (long, is) e = (
-    length-set ys i t ∙ long,
-    ap (set ys i) e ∙ map_over_more opposite r.terms ys i (get_or ys i d) (omega (arith, low)) is (get_or_default ys i d (get_or ys i d) (omega (arith, low, places_long))),
-  )
+    pub turned_all : length ts ≤ i → us ≡ map opposite ts
+    turned_all end = is ∙ ap₂ (λ vs ws. map opposite vs ++ ws) (take_all i ts end) (drop_all i ts end) ∙ append-nil (map opposite ts)
 
-  pub negated_record : (ys : List Term) (j : Interval) → ys ≡ map opposite (take r.count r.terms) ++ drop r.count r.terms → j ≡ negated r.remainder
-      → ◌≡◌ {A = ModelRecord} (record { count = r.count; terms = ys; remainder = j }) (packed (negated_model (unpacked r)))
-  negated_record ys j is e =
-      let ts = take r.count r.terms in
+  pub negated_record : {us : List Term} {j : Interval} → us ≡ map opposite ts → j ≡ negated r.remainder
+      → ◌≡◌ {A = ModelRecord} (record { count = r.count; terms = us ++ drop r.count r.terms; remainder = j }) (packed (negated_model (unpacked r)))
+  negated_record {us} {j} is e =
       let p = h.canonical.packs in
       let size : r.count ≡ length (map opposite ts) = p.size ∙ sym (length-map ts opposite) in
       let rest : drop r.count r.terms ≡ replicate (40 - length (map opposite ts)) zero_term =
       ap (drop r.count) p.whole ∙ drop_at ts (replicate (40 - length ts) zero_term) r.count (sym p.size) ∙ ap (λ n. replicate (40 - n) zero_term) (sym (length-map ts opposite)) in
-      record_of ys r.count (map opposite ts) j (record { whole = is ∙ ap (λ us. map opposite ts ++ us) rest; size = size; fits = omega (arith, size, p.fits, p.size) })
+      record_of (us ++ drop r.count r.terms) r.count (map opposite ts) j (record { whole = ap₂ (λ vs ws. vs ++ ws) is rest; size = size; fits = omega (arith, size, p.fits, p.size) })
       ∙ ap (λ i. packed (model (map opposite ts) i)) e
 
   pub negated-held : Held limit (packed (negated_model (unpacked r)))

@@ -20,15 +20,6 @@ pub struct TallyRecord {
     pub fit: bool,
 }
 
-// The terms in use.
-pub fn used(model: &ModelRecord) -> &[Term]
-    requires { model.now.count ≤ length model.now.terms }
-    ensures value { result.now ≡ (unpacked model.now).terms }
-{
-    let terms = &model.terms[..];
-    &terms[0..model.count]
-}
-
 // A pair: the product of the monomials, with the hull.
 fn pair<K: Kind>(kind: &K, p: Term, q: Term) -> Term
     requires { (Factor p) × (Factor q) }
@@ -50,16 +41,13 @@ fn keep<K: Kind>(model: &mut ModelRecord, kind: &K, pair: Term) -> Result<(), Re
     ensures packs { is_ok result ≡ true → InPlaces model.new }
 {
     let (coefficient, leftover) = kind.split(pair.coefficient);
-    let monomial = pair.monomial;
     let term = Term {
-        monomial,
         coefficient,
+        ..pair
     };
-    let Some(count) = enter(&mut model.terms, model.count, term) else {
-        return Err(Reason::TooManyMonomials);
-    };
+    let count = enter(&mut model.terms, model.count, term).ok_or(Reason::TooManyMonomials)?;
     model.count = count;
-    model.remainder = model.remainder.plus(reach(monomial, leftover));
+    model.remainder = model.remainder.plus(reach(pair.monomial, leftover));
     Ok(())
 }
 
@@ -94,10 +82,9 @@ impl TallyRecord {
             return pair;
         }
         self.fit = false;
-        let monomial = pair.monomial;
         Term {
-            monomial,
             coefficient: Interval { lower: 0, upper: 0 },
+            ..pair
         }
     }
 

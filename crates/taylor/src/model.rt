@@ -1,11 +1,15 @@
 // The record of a model.
-ghost use Rattle.std.specs.Prelude.{◌≡◌};
-ghost use Rattle.taylor.specs.Model.{zero_record};
+ghost use Rattle.std.specs.Prelude.{◌≡◌, ◌≤◌, length};
+ghost use Rattle.interval.specs.Interval.{limit};
+ghost use Rattle.polynomial.specs.Method.{Polynomial};
+ghost use Rattle.taylor.specs.Model.{zero_record, unpacked, full_range};
+ghost use Rattle.taylor.specs.Record.{Held};
 
 use interval::Interval;
 use polynomial::{Term, ZERO_TERM};
+use ranging::Ranging;
 
-// `count` terms, zero terms after them, and the remainder.
+// `count` terms, zero terms after them, and the remainder. Callers keep records and compare them as data, so no fact is tied to one.
 #[derive(Clone, Copy)]
 pub struct ModelRecord {
     pub count: usize,
@@ -23,5 +27,30 @@ impl ModelRecord {
             terms: [ZERO_TERM; 40],
             remainder: Interval { lower: 0, upper: 0 },
         }
+    }
+
+    // The terms in use.
+    pub fn used(&self) -> &[Term]
+        requires { self.now.count ≤ length self.now.terms }
+        ensures value { result.now ≡ (unpacked self.now).terms }
+    {
+        &self.terms[..self.count]
+    }
+
+    // The method's range of the polynomial.
+    pub(crate) fn polynomial_range<M: Ranging>(&self, method: &M) -> Interval
+        requires room { self.now.count ≤ length self.now.terms }
+        requires polynomial { Polynomial (unpacked self.now).terms }
+        ensures value { result ≡ (M.meaning method.now).range (unpacked self.now).terms }
+    {
+        method.range(self.used())
+    }
+
+    // The method's range of the polynomial plus the remainder.
+    pub fn range<M: Ranging>(&self, method: &M) -> Interval
+        requires { Held limit self.now }
+        ensures value { result ≡ full_range (M.meaning method.now) (unpacked self.now) }
+    {
+        self.polynomial_range(method).plus(self.remainder)
     }
 }

@@ -10,7 +10,7 @@ ghost use Rattle.taylor.specs.Model.{unpacked};
 ghost use Rattle.taylor.specs.Product.{range_remainder, three_fit, joint_remainder, times_worked};
 ghost use Rattle.taylor.specs.Record.{Ready, recorded, worked_of, recorded_worked};
 
-use crate::gathering::{TallyRecord, used};
+use crate::gathering::TallyRecord;
 use crate::model::ModelRecord;
 use crate::testing::test;
 use crate::worked::WorkedRecord;
@@ -29,7 +29,7 @@ fn range_remainder<K: Kind, M: Ranging>(
     requires second { Ready (M.Ranging.meaning method.now) b.now }
     ensures value { result ≡ range_remainder (K.Kind.meaning kind.now) (M.Ranging.meaning method.now) (unpacked a.now) (unpacked b.now) }
 {
-    method.range(used(a)).times(b.remainder, kind.scale())
+    a.polynomial_range(method).times(b.remainder, kind.scale())
 }
 
 // Adds the products of ranges and remainders to what the pairs leave over, if all three fit.
@@ -94,7 +94,7 @@ fn gathered<K: Kind>(
     ensures form { IfOk result (Tallies order) }
 {
     let mut tally = TallyRecord::new();
-    tally.take_pairs(kind, order, used(a), used(b))?;
+    tally.take_pairs(kind, order, a.used(), b.used())?;
     Ok(tally)
 }
 

@@ -17,13 +17,8 @@ pub fn sum(a: &ModelRecord, b: &ModelRecord) -> Result<ModelRecord, Reason>
 {
     let mut terms = a.terms;
     let mut count = a.count;
-    let all = &b.terms[..];
-    let others = &all[0..b.count];
-    for t in others {
-        let Some(more) = enter(&mut terms, count, *t) else {
-            return Err(Reason::TooManyMonomials);
-        };
-        count = more;
+    for t in b.used() {
+        count = enter(&mut terms, count, *t).ok_or(Reason::TooManyMonomials)?;
     }
     let count = drop_zeros(&mut terms, count);
     Ok(ModelRecord {
@@ -33,14 +28,14 @@ pub fn sum(a: &ModelRecord, b: &ModelRecord) -> Result<ModelRecord, Reason>
     })
 }
 
+// The same term with the other sign.
 fn opposite(t: Term) -> Term
     requires { Summable t.coefficient }
     ensures value { result ≡ opposite t }
 {
-    let monomial = t.monomial;
     Term {
-        monomial,
         coefficient: t.coefficient.negated(),
+        ..t
     }
 }
 
@@ -50,9 +45,8 @@ fn negated(a: &ModelRecord) -> ModelRecord
     ensures value { result ≡ packed (negated_model (unpacked a.now)) }
 {
     let mut terms = a.terms;
-    for i in 0..a.count {
-        let t = terms[i];
-        terms[i] = opposite(t);
+    for t in terms[..a.count].iter_mut() {
+        *t = opposite(*t);
     }
     ModelRecord {
         count: a.count,

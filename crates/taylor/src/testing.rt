@@ -14,12 +14,10 @@ pub fn test<M: Ranging>(method: &M, model: &ModelRecord) -> Result<(), Reason>
     requires { Held room model.now }
     ensures value { result ≡ passed (tested (M.meaning method.now) (unpacked model.now)) }
 {
-    let terms = &model.terms[..];
-    let terms = &terms[0..model.count];
-    if !all_fit(terms) || !model.remainder.fits() {
+    if !all_fit(model.used()) || !model.remainder.fits() {
         return Err(Reason::DoesNotFit);
     }
-    let range = method.range(terms);
+    let range = model.polynomial_range(method);
     if !range.fits() || !range.plus(model.remainder).fits() {
         return Err(Reason::DoesNotFit);
     }

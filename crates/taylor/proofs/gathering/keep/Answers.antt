@@ -1,8 +1,11 @@
 -- There is room for one term more, or the refusal; its leftover's reach can be added.
-use Rattle.std.proofs.Common.{lit≤}
+use Rattle.std.proofs.Common.{lit≤, sym, ◌∙◌}
+use Rattle.std.proofs.lemmas.Bool.{false≢true}
 use Rattle.interval.specs.Kind.{twice_limit}
+use Rattle.taylor.proofs.Results.{passed_on}
 use Rattle.taylor.proofs.Operands.{places_room}
-use Rattle.taylor.proofs.Entering.{open_joins, open_remainder, kept_pair}
+use Rattle.taylor.proofs.Summing.{entered_some}
+use Rattle.taylor.proofs.Entering.{open_joins, open_remainder, kept_pair, refused_pair}
 use Rattle.taylor.proofs.gathering.keep.Goals as goal
 
 pub enter-requires : goal.enter-requires
@@ -17,10 +20,21 @@ plus-model-requires g c =
     let s = c.split.ensures.laws in
     open_remainder M c.requires.form twice_limit (lit≤ tt) c.args.pair.monomial c.split.result.1 c.reach.result s.leftover c.reach.ensures.value
 
+pub returns-in_err-count : goal.returns-in_err-count
+returns-in_err-count g c =
+    let p = passed_on c.from_residual.result c.from_residual.ensures.1 in
+    let h = c.in_err-count.ensures in
+    rw p (record {
+      value = refused_pair c.args.model.now c.requires.form (g.K.Kind.meaning c.args.kind.now) c.args.pair c.split.result c.split.ensures.value h.ok_part c.enter.ensures.value h.value;
+      after = λ q. absurd (false≢true q);
+      packs = λ q. absurd (false≢true q);
+    })
+
 pub returns : goal.returns
 returns g c =
     let M = c.args.model.now in
+    let room = c.in_ok-count.ensures.ok_part in
     let k = kept_pair M c.requires.form (g.K.Kind.meaning c.args.kind.now) c.args.pair c.split.result c.split.ensures.value
-    (record { count = c.in-Some.count; terms = c.enter.new.terms; remainder = c.plus-model.result })
-    c.reach.result c.in-Some.ensures.value c.in-Some.ensures.after c.reach.ensures.value c.plus-model.ensures.value in
+    (record { count = c.in_ok-count.count; terms = c.enter.new.terms; remainder = c.plus-model.result })
+    c.reach.result (sym room ∙ c.enter.ensures.value) (entered_some _ _ room c.enter.ensures.after) c.reach.ensures.value c.plus-model.ensures.value in
     record { value = k.value; after = λ _. k.after; packs = λ _. k.packs }

@@ -1,6 +1,6 @@
-use Rattle.std.proofs.Common.{◌≡◌, ◌++◌, map, length, take, drop}
+use Rattle.std.proofs.Common.{◌≡◌, ◌++◌, map, take, drop}
 use Rattle.taylor.specs.Arithmetic.{opposite}
 use Rattle.taylor.proofs.sums.negated.Given as goal
 
-abbrev pub invariant-loop-i : goal.invariant-loop-i
-invariant-loop-i l = (length l.terms ≡ 40) × (l.terms ≡ map opposite (take l.i l.a.terms) ++ drop l.i l.a.terms)
+abbrev pub invariant-loop-t : goal.invariant-loop-t
+invariant-loop-t l = let ts = take l.a.count l.a.terms in l.t-items ≡ map opposite (take l.t-index ts) ++ drop l.t-index ts

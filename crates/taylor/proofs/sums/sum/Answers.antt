@@ -1,18 +1,29 @@
+use Rattle.std.proofs.Common.{sym, ◌∙◌}
 use Rattle.taylor.specs.Model.{unpacked}
-use Rattle.taylor.proofs.Summing.{adding_start, adding_more, adding_full, adding_done, adding_room, joinable, sum-refused, sum_comes}
+use Rattle.taylor.proofs.Results.{passed_on}
+use Rattle.taylor.proofs.Operands.{places_room}
+use Rattle.taylor.proofs.Summing.{entered_some, entered_none, adding_start, adding_more, adding_full, adding_done, adding_room, joinable, sum-refused, sum_comes}
 use Rattle.taylor.proofs.sums.sum.Goals as goal
 
+pub used-t-items-requires : goal.used-t-items-requires
+used-t-items-requires c = places_room c.requires.second.canonical.packs
+
 pub loop-t-init : goal.loop-t-init
-loop-t-init c = adding_start c.args.a.now c.args.b.now c.requires.first c.requires.second
+loop-t-init c = adding_start c.args.a.now c.args.b.now c.requires.first c.requires.second c.used-t-items.ensures.value
 
 pub enter-requires : goal.enter-requires
 enter-requires c = record { room = adding_room c.loop-t.invariant; joins = joinable _ _ _ _ _ c.loop-t.invariant _ c.loop-t-test.true }
 
-pub returns-in_default : goal.returns-in_default
-returns-in_default c = record { value = sum-refused _ _ (adding_full _ _ _ _ _ c.loop-t.invariant _ c.loop-t-test.true c.in_default.ensures.value) }
+pub returns-in_err-count : goal.returns-in_err-count
+returns-in_err-count c =
+    let full = c.in_err-count.ensures in
+    rw (passed_on c.from_residual.result c.from_residual.ensures.1, entered_none full.ok_part full.value)
+    (record { value = sum-refused _ _ (adding_full _ _ _ _ _ c.loop-t.invariant _ c.loop-t-test.true (sym full.ok_part ∙ c.enter.ensures.value)) })
 
 pub loop-t-preserved : goal.loop-t-preserved
-loop-t-preserved c = adding_more _ _ _ _ _ c.loop-t.invariant _ c.loop-t-test.true _ _ c.in-Some.ensures.value c.in-Some.ensures.after
+loop-t-preserved c =
+    let room = c.in_ok-count.ensures.ok_part in
+    adding_more _ _ _ _ _ c.loop-t.invariant _ c.loop-t-test.true _ _ (sym room ∙ c.enter.ensures.value) (entered_some _ _ room c.enter.ensures.after)
 
 pub drop_zeros-count-requires : goal.drop_zeros-count-requires
 drop_zeros-count-requires c = adding_room c.loop-t.invariant
