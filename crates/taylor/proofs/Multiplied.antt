@@ -21,8 +21,8 @@ use Rattle.taylor.specs.Model.{Model, model, packed, unpacked, tested}
 use Rattle.taylor.specs.Form.{greatest_order, Normal, Formed}
 use Rattle.taylor.specs.Product.{Worked, worked, pairs, three_fit, joint_remainder, product, times_worked}
 use Rattle.taylor.specs.Keeping.{room}
-use Rattle.taylor.specs.Record.{Held, recorded, passed, recorded_worked}
-use Rattle.taylor.specs.Gathering.{Tally, no_pairs, tally, product_tally, roomy, completed, tally_of, packed_tally, recorded_tally, InPlaces, Tallies, Factors}
+use Rattle.taylor.specs.Record.{Held, Ready, recorded, passed, recorded_worked}
+use Rattle.taylor.specs.Gathering.{Tally, no_pairs, tally, product_tally, roomy, completed, tally_of, packed_tally, recorded_tally, InPlaces, Tallies}
 use Rattle.taylor.proofs.Results.{same-value, not_refused, and_then_ok, require_ok, require_yes}
 use Rattle.taylor.proofs.Made.{test_made}
 use Rattle.taylor.proofs.Forms.{product_formed}
@@ -48,8 +48,8 @@ tallies_none order = record {
   bounds = record { draft = record { ascends = tt; each = tt }; remainder = sized_zero 0 };
 }
 
-pub pairs-few : {a b : ModelRecord} → Factors a → Factors b → 0 + length (unpacked a).terms * length (unpacked b).terms ≤ 1600
-pairs-few f g = omega (arith, mul-le-mul f.packs.fits g.packs.fits)
+pub pairs-few : {m : MethodMeaning} {a b : ModelRecord} → Ready m a → Ready m b → 0 + length (unpacked a).terms * length (unpacked b).terms ≤ 1600
+pairs-few f g = omega (arith, mul-le-mul f.canonical.packs.fits g.canonical.packs.fits)
 
 -- a refusal is the same whatever would have come
 refused-same : {A B : Type 0} (b : Bool) (d e : Reason) (x : A) (r : Result B Reason) → Err e ≡ require b d (Ok x) → Err e ≡ require b d r

@@ -1,11 +1,17 @@
 -- What an operand of a product offers: terms that a method may be asked about, and factors of pairs. Assumes nothing.
-use Rattle.std.proofs.Common.{◌≡◌, ℕ, ◌+◌, ◌≤◌, true, List, length, sym, arith}
+use Rattle.std.proofs.Common.{◌≡◌, ℕ, ◌+◌, ◌≤◌, true, List, [], ◌∷◌, length, sym, arith}
 use Rattle.std.specs.List.{AllByRecursion}
+use Rattle.std.proofs.Math.Logic.{∥∥₁_elim}
+use Rattle.std.specs.Coded.{×_prop, Unit-prop}
+use Rattle.std.specs.Ordering.{Ordering-set}
+use Rattle.std.proofs.Props.{props}
 use Rattle.interval.specs.declared.marks.Interval.{Interval}
 use Rattle.interval.specs.Interval.{limit, Sized, Fits, fits, plus, times}
 use Rattle.interval.specs.Kind.{KindMeaning}
 use Rattle.interval.proofs.Sizes.{sized-plus, fits-sized}
 use Rattle.table.specs.Monomial.{degree}
+use Rattle.table.specs.Order.{by_degree}
+use Rattle.table.specs.Table.{Ascending}
 use Rattle.table.proofs.Packing.{packs_long}
 use Rattle.polynomial.specs.declared.term.Term.{Term}
 use Rattle.polynomial.specs.Method.{MethodMeaning, Polynomial}
@@ -30,6 +36,26 @@ product-fits k {S} s i j r e t = fits-sized (rw e (times-order S (rw s (scale-ab
 -- joins what is left over, and can still be added to
 pub product-joins : {n : ℕ} {i j r : Interval} → Sized n i → Fits j → r ≡ plus i j → Sized (n + limit) r
 product-joins s f e = rw e (sized-plus s f)
+
+-- ---- the facts of an operand have one proof
+ascending-one : (ts : List Term) → IsProp (Ascending by_degree (λ t. t.monomial) ts)
+ascending-one [] = Unit-prop
+ascending-one (t ∷ []) = ×_prop Unit-prop Unit-prop
+ascending-one (t ∷ (u ∷ ts)) = ×_prop (Ordering-set _ _) (ascending-one (u ∷ ts))
+
+ready-one : (m : MethodMeaning) (r : ModelRecord) → IsProp (Ready m r)
+ready-one m r = Prim.hlevel (props, ascending-one)
+
+-- what a product keeps of an operand
+pub kept : {m : MethodMeaning} {r : ModelRecord} → ∥ Ready m r ∥₁ → Ready m r
+kept {m} {r} h = ∥∥₁_elim h (ready-one m r) (λ a. a)
+
+-- its remainder, times a range or a remainder
+pub remainders_times : {m : MethodMeaning} {a b : ModelRecord} → Ready m a → Ready m b → Sized limit a.remainder × Sized limit b.remainder
+remainders_times f g = (f.tested.sized.remainder, g.tested.sized.remainder)
+
+pub ranges_times : (m : MethodMeaning) {a b : ModelRecord} → Ready m a → Ready m b → {i : Interval} → i ≡ m.range (unpacked a).terms → Sized limit i × Sized limit b.remainder
+ranges_times m f g e = (rw e f.tested.range, g.tested.sized.remainder)
 
 module _ {m : MethodMeaning} {r : ModelRecord} (h : Ready m r) where
   pub ready_room : r.count ≤ length r.terms

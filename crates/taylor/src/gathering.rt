@@ -6,6 +6,7 @@ ghost use Rattle.taylor.specs.Model.{unpacked};
 ghost use Rattle.taylor.specs.Product.{pair as pair_of, row, pairs as all_pairs, keep, cut};
 ghost use Rattle.taylor.specs.Gathering.{held, no_pairs, roomy, packed_tally, InPlaces, Open, Tallies, Factor, Took};
 
+use crate::arithmetic::Arithmetic;
 use crate::model::ModelRecord;
 use interval::{Interval, Kind, Reason};
 use polynomial::{Term, enter, reach};
@@ -89,16 +90,16 @@ impl TallyRecord {
     }
 
     // A pair of at most the order's degree is kept, any other cut.
-    fn take<K: Kind>(&mut self, kind: &K, order: u32, pair: Term) -> Result<(), Reason>
-        requires form { Tallies order self.old }
+    fn take<K: Kind, M>(&mut self, by: &Arithmetic<'_, K, M>, pair: Term) -> Result<(), Reason>
+        requires form { Tallies by.now.order self.old }
         requires few { self.old.pairs < 1600 }
         requires ends { pair.coefficient.lower ≤ℤ pair.coefficient.upper }
-        ensures took { Took (K.meaning kind.now) order self.old (pair ∷ []) result self.new }
+        ensures took { Took (K.meaning by.now.kind.now) by.now.order self.old (pair ∷ []) result self.new }
     {
         let pair = self.hold(pair);
         self.pairs += 1;
-        if degree(pair.monomial) <= order {
-            return keep(&mut self.model, kind, pair);
+        if degree(pair.monomial) <= by.order {
+            return keep(&mut self.model, by.kind, pair);
         }
         self.clean = false;
         cut(&mut self.model, pair);
@@ -106,39 +107,37 @@ impl TallyRecord {
     }
 
     // The pairs of one term.
-    fn take_row<K: Kind>(
+    fn take_row<K: Kind, M>(
         &mut self,
-        kind: &K,
-        order: u32,
+        by: &Arithmetic<'_, K, M>,
         p: Term,
         qs: &[Term],
     ) -> Result<(), Reason>
-        requires form { Tallies order self.old }
+        requires form { Tallies by.now.order self.old }
         requires few { self.old.pairs + length qs.now ≤ 1600 }
         requires factors { (Factor p) × (AllByRecursion Factor qs.now) }
-        ensures took { Took (K.meaning kind.now) order self.old (row (K.meaning kind.now).scale p qs.now) result self.new }
+        ensures took { Took (K.meaning by.now.kind.now) by.now.order self.old (row (K.meaning by.now.kind.now).scale p qs.now) result self.new }
     {
         for q in qs {
-            self.take(kind, order, pair(kind, p, *q))?;
+            self.take(by, pair(by.kind, p, *q))?;
         }
         Ok(())
     }
 
     // The pairs of all terms, row by row.
-    pub fn take_pairs<K: Kind>(
+    pub fn take_pairs<K: Kind, M>(
         &mut self,
-        kind: &K,
-        order: u32,
+        by: &Arithmetic<'_, K, M>,
         ps: &[Term],
         qs: &[Term],
     ) -> Result<(), Reason>
-        requires form { Tallies order self.old }
+        requires form { Tallies by.now.order self.old }
         requires few { self.old.pairs + length ps.now * length qs.now ≤ 1600 }
         requires factors { (AllByRecursion Factor ps.now) × (AllByRecursion Factor qs.now) }
-        ensures took { Took (K.meaning kind.now) order self.old (all_pairs (K.meaning kind.now).scale ps.now qs.now) result self.new }
+        ensures took { Took (K.meaning by.now.kind.now) by.now.order self.old (all_pairs (K.meaning by.now.kind.now).scale ps.now qs.now) result self.new }
     {
         for p in ps {
-            self.take_row(kind, order, *p, qs)?;
+            self.take_row(by, *p, qs)?;
         }
         Ok(())
     }

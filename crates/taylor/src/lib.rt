@@ -1,6 +1,7 @@
 // Taylor models: their records, their arithmetic, and what it keeps.
 #![tactic(auto)]
 
+mod arithmetic; // kind, method and order
 mod constants; // constants and variables
 mod gathering; // the pairs of a product, as they come
 mod laws; // what the arithmetic keeps, as theorems
@@ -11,13 +12,12 @@ mod sums; // sums and differences
 mod testing; // the test of a model
 mod worked; // a model with the pairs that it made
 
+pub use arithmetic::Arithmetic;
 pub use constants::{constant, variable};
 pub use laws::{
     arithmetic_encloses, forms_are_kept, points_hold, records_hold_models, whole_kind_is_exact,
 };
 pub use model::ModelRecord;
-pub use multiplying::times;
-pub use powers::power;
 pub use sums::{difference, sum};
 pub use testing::test;
 pub use worked::WorkedRecord;

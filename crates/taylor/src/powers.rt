@@ -1,16 +1,15 @@
 // Powers of models.
-ghost use Rattle.std.specs.Prelude.{◌≡◌, ◌≤◌, true, Ok};
+ghost use Rattle.std.specs.Prelude.{◌≡◌, true, Ok};
 ghost use Rattle.interval.specs.Reason.{and_then};
 ghost use Rattle.taylor.specs.Arithmetic.{one};
-ghost use Rattle.taylor.specs.Form.{greatest_order};
 ghost use Rattle.taylor.specs.Keeping.{room};
 ghost use Rattle.taylor.specs.Model.{packed, unpacked, tested};
 ghost use Rattle.taylor.specs.Product.{worked, raised, power};
 ghost use Rattle.taylor.specs.Record.{Held, Ready, recorded_worked};
 
+use crate::arithmetic::Arithmetic;
 use crate::constants::constant;
 use crate::model::ModelRecord;
-use crate::multiplying::times;
 use crate::testing::test;
 use crate::worked::WorkedRecord;
 use interval::{Interval, Kind, Reason};
@@ -43,44 +42,32 @@ fn alone<M: Ranging>(method: &M, model: &ModelRecord) -> Result<WorkedRecord, Re
     })
 }
 
-// The operand, multiplied by itself so many times more.
-fn raised<K: Kind, M: Ranging>(
-    kind: &K,
-    method: &M,
-    order: u32,
-    more: u8,
-    operand: &ModelRecord,
-) -> Result<WorkedRecord, Reason>
-    requires order { order ≤ greatest_order }
-    requires operand { Ready (M.Ranging.meaning method.now) operand.now }
-    ensures value { result ≡ recorded_worked (raised (K.Kind.meaning kind.now) (M.Ranging.meaning method.now) order more (worked (unpacked operand.now) 0 true) (unpacked operand.now)) }
-{
-    let mut worked = WorkedRecord {
-        model: *operand,
-        pairs: 0,
-        clean: true,
-    };
-    for _done in 0..more {
-        worked = times(kind, method, order, &worked, operand)?;
+impl<'a, K: Kind, M: Ranging> Arithmetic<'a, K, M> {
+    // The operand, multiplied by itself so many times more.
+    fn raised(&self, more: u8, operand: &ModelRecord) -> Result<WorkedRecord, Reason>
+        requires operand { Ready (M.Ranging.meaning self.now.method.now) operand.now }
+        ensures value { result ≡ recorded_worked (raised (K.Kind.meaning self.now.kind.now) (M.Ranging.meaning self.now.method.now) self.now.order more (worked (unpacked operand.now) 0 true) (unpacked operand.now)) }
+    {
+        let mut worked = WorkedRecord {
+            model: *operand,
+            pairs: 0,
+            clean: true,
+        };
+        for _done in 0..more {
+            worked = self.times(&worked, operand)?;
+        }
+        Ok(worked)
     }
-    Ok(worked)
-}
 
-// Power 0 is one unit, power 1 the operand, a higher power the one below it times the operand; each is tested.
-pub fn power<K: Kind, M: Ranging>(
-    kind: &K,
-    method: &M,
-    order: u32,
-    exponent: u8,
-    operand: &ModelRecord,
-) -> Result<WorkedRecord, Reason>
-    requires order { order ≤ greatest_order }
-    requires operand { Ready (M.Ranging.meaning method.now) operand.now }
-    ensures value { result ≡ recorded_worked (power (K.Kind.meaning kind.now) (M.Ranging.meaning method.now) order exponent (unpacked operand.now)) }
-{
-    match exponent {
-        0 => alone(method, &one(kind)),
-        1 => alone(method, operand),
-        _ => raised(kind, method, order, exponent - 1, operand),
+    // Power 0 is one unit, power 1 the operand, a higher power the one below it times the operand; each is tested.
+    pub fn power(&self, exponent: u8, operand: &ModelRecord) -> Result<WorkedRecord, Reason>
+        requires operand { Ready (M.Ranging.meaning self.now.method.now) operand.now }
+        ensures value { result ≡ recorded_worked (power (K.Kind.meaning self.now.kind.now) (M.Ranging.meaning self.now.method.now) self.now.order exponent (unpacked operand.now)) }
+    {
+        match exponent {
+            0 => alone(self.method, &one(self.kind)),
+            1 => alone(self.method, operand),
+            _ => self.raised(exponent - 1, operand),
+        }
     }
 }

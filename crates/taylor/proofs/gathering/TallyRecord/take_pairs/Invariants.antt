@@ -6,6 +6,6 @@ use Rattle.taylor.proofs.gathering.TallyRecord.take_pairs.Given as goal
 
 abbrev pub invariant-loop-p : goal.invariant-loop-p
 invariant-loop-p g l =
-    let k = g.K.Kind.meaning l.kind in
-    Tallies l.order l.self × (l.self.pairs ≡ l.initial.self.pairs + l.p-index * length l.qs)
-    × (tally k l.order (tally_of l.self) (pairs k.scale (drop l.p-index l.ps) l.qs) ≡ tally k l.order (tally_of l.initial.self) (pairs k.scale l.ps l.qs))
+    let k = g.K.Kind.meaning l.by.kind.now in
+    Tallies l.by.order l.self × (l.self.pairs ≡ l.initial.self.pairs + l.p-index * length l.qs)
+    × (tally k l.by.order (tally_of l.self) (pairs k.scale (drop l.p-index l.ps) l.qs) ≡ tally k l.by.order (tally_of l.initial.self) (pairs k.scale l.ps l.qs))

@@ -6,6 +6,6 @@ use Rattle.taylor.proofs.gathering.TallyRecord.take_row.Given as goal
 
 abbrev pub invariant-loop-q : goal.invariant-loop-q
 invariant-loop-q g l =
-    let k = g.K.Kind.meaning l.kind in
-    Tallies l.order l.self × (l.self.pairs ≡ l.initial.self.pairs + l.q-index)
-    × (tally k l.order (tally_of l.self) (row k.scale l.p (drop l.q-index l.qs)) ≡ tally k l.order (tally_of l.initial.self) (row k.scale l.p l.qs))
+    let k = g.K.Kind.meaning l.by.kind.now in
+    Tallies l.by.order l.self × (l.self.pairs ≡ l.initial.self.pairs + l.q-index)
+    × (tally k l.by.order (tally_of l.self) (row k.scale l.p (drop l.q-index l.qs)) ≡ tally k l.by.order (tally_of l.initial.self) (row k.scale l.p l.qs))

@@ -4,11 +4,11 @@ use Rattle.table.proofs.Packing.{packs_long}
 use Rattle.taylor.specs.Model.{unpacked}
 use Rattle.taylor.proofs.Operands.{places_room}
 use Rattle.taylor.proofs.Multiplied.{hulls_unfit, rest_unfit, completed_made}
-use Rattle.taylor.proofs.multiplying.completed.Goals as goal
+use Rattle.taylor.proofs.multiplying.Product.completed.Goals as goal
 
 pub returns-then-not-tally : goal.returns-then-not-tally
 returns-then-not-tally g c = record {
-  value = hulls_unfit (g.K.Kind.meaning c.args.kind.now) (g.M.Ranging.meaning c.args.method.now) c.args.tally.now (unpacked c.args.a.now) (unpacked c.args.b.now) c.if-not-tally.true;
+  value = hulls_unfit (g.K.Kind.meaning c.args.self.now.by.now.kind.now) (g.M.Ranging.meaning c.args.self.now.by.now.method.now) c.args.tally.now (unpacked c.args.self.now.a.now) (unpacked c.args.self.now.b.now) c.if-not-tally.true;
 }
 
 pub returns-in_err-remainder : goal.returns-in_err-remainder
@@ -16,7 +16,7 @@ returns-in_err-remainder g c =
     let p = err_from_is_err_and {Q = λ e. e ≡ c.in_err-remainder.field-0.0} c.from_residual.result c.from_residual.ensures.1 in
     rw (p.1, p.2)
     (record {
-      value = rest_unfit (g.K.Kind.meaning c.args.kind.now) (g.M.Ranging.meaning c.args.method.now) c.args.tally.now (unpacked c.args.a.now) (unpacked c.args.b.now) c.if-not-tally.false
+      value = rest_unfit (g.K.Kind.meaning c.args.self.now.by.now.kind.now) (g.M.Ranging.meaning c.args.self.now.by.now.method.now) c.args.tally.now (unpacked c.args.self.now.a.now) (unpacked c.args.self.now.b.now) c.if-not-tally.false
           c.in_err-remainder.field-0.0 c.in_err-remainder.ensures.value;
     })
 
@@ -28,6 +28,6 @@ drop_zeros-count-requires g c = places_room c.requires.packs
 
 pub returns : goal.returns
 returns g c = record {
-  value = completed_made (g.K.Kind.meaning c.args.kind.now) (g.M.Ranging.meaning c.args.method.now) c.args.tally.now (unpacked c.args.a.now) (unpacked c.args.b.now) c.if-not-tally.false
+  value = completed_made (g.K.Kind.meaning c.args.self.now.by.now.kind.now) (g.M.Ranging.meaning c.args.self.now.by.now.method.now) c.args.tally.now (unpacked c.args.self.now.a.now) (unpacked c.args.self.now.b.now) c.if-not-tally.false
       c.in_ok-remainder.remainder c.in_ok-remainder.ensures.value c.requires.packs c.drop_zeros-count.new.terms c.drop_zeros-count.result c.drop_zeros-count.ensures.value c.drop_zeros-count.ensures.after;
 }

@@ -1,0 +1,10 @@
+use Rattle.taylor.proofs.Operands.{kept, ready_room, ready_polynomial, ranges_times}
+use Rattle.taylor.proofs.multiplying.Product.range_remainder.Goals as goal
+
+pub polynomial_range-range-requires : goal.polynomial_range-range-requires
+polynomial_range-range-requires g c = let a = kept c.args.self.now.first in record { room = ready_room a; polynomial = ready_polynomial a }
+
+pub times-requires : goal.times-requires
+times-requires g c =
+    let m = g.M.Ranging.meaning c.args.self.now.by.now.method.now in
+    ranges_times m (kept c.args.self.now.first) (kept c.args.self.now.second) c.polynomial_range-range.ensures.value
