@@ -92,23 +92,30 @@ all_fit_in [] A t = tt
 all_fit_in (x ∷ xs) A t = let h = and_parts (fits x.coefficient) (all_fit xs) t in (fits-sized A.0 h.0, all_fit_in xs A.1 h.1)
 
 -- ---- gathering
+-- a pair that is kept, and one that is cut
+module _ (k : KindMeaning) {d a r : ℕ} (M : Model) (t : Term) (f : Fits t.coefficient) (G : Gathering d a r M) where
+  pub keep-one : length t.monomial ≡ 6 → degree t.monomial ≤ d → Gathering d (a + limit) (r + twice_limit) (keep k M t)
+  keep-one six low =
+      let s = k.splits t.coefficient f in
+      record {
+        draft = draft-entered (term t.monomial (k.split t.coefficient).0) M.terms G.draft (record { six = six; low = low; sized = s.coefficient });
+        remainder = sized-plus G.remainder (sized-reach t.monomial s.leftover);
+      }
+
+  pub cut-one : Gathering d (a + limit) (r + twice_limit) (cut M t)
+  cut-one = record {
+    draft = draft_more (a + limit) (omega arith) G.draft;
+    remainder = sized_weaken (omega arith) (sized-plus G.remainder (sized-reach t.monomial f));
+  }
+
 module _ (k : KindMeaning) (order : ℕ) where
   gather-one : {a r : ℕ} (M : Model) (t : Term) → length t.monomial ≡ 6 → Fits t.coefficient → Gathering order a r M
       → Gathering order (a + limit) (r + twice_limit) (gather k order M t)
   gather-one {a} {r} M t six f G = go (kept order t) refl
     where
       go : (b : Bool) → kept order t ≡ b → Gathering order (a + limit) (r + twice_limit) (cond b (keep k M t) (cut M t))
-      go true q =
-          let s = k.splits t.coefficient f in
-          let low : degree t.monomial ≤ order = leb-true (degree t.monomial) order q in
-          record {
-            draft = draft-entered (term t.monomial (k.split t.coefficient).0) M.terms G.draft (record { six = six; low = low; sized = s.coefficient });
-            remainder = sized-plus G.remainder (sized-reach t.monomial s.leftover);
-          }
-      go false q = record {
-        draft = draft_more (a + limit) (omega arith) G.draft;
-        remainder = sized_weaken (omega arith) (sized-plus G.remainder (sized-reach t.monomial f));
-      }
+      go true q = keep-one k M t f G six (leb-true (degree t.monomial) order q)
+      go false q = cut-one k M t f G
 
   pub gather_all : (a r : ℕ) (ts : List Term) (M : Model) → Six ts → AllByRecursion (λ t. Fits t.coefficient) ts → Gathering order a r M
       → Gathering order (a + length ts * limit) (r + length ts * twice_limit) (fold (gather k order) M ts)

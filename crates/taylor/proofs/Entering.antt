@@ -19,7 +19,8 @@ use Rattle.polynomial.specs.Terms.{new_count}
 use Rattle.taylor.specs.declared.model.ModelRecord.{ModelRecord}
 use Rattle.taylor.specs.Model.{model, unpacked}
 use Rattle.taylor.specs.Product.{keep}
-use Rattle.taylor.specs.Gathering.{roomy, InPlaces, Open}
+use Rattle.taylor.specs.Form.{InPlaces}
+use Rattle.taylor.specs.Gathering.{roomy, Open}
 use Rattle.taylor.proofs.Results.{require_yes}
 use Rattle.taylor.proofs.Sizes.{sized-reach}
 use Rattle.taylor.proofs.Packed.{Places}

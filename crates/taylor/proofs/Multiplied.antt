@@ -1,6 +1,7 @@
 -- Each way out of a product, from the tally of its pairs. Assumes nothing.
-use Rattle.std.proofs.Common.{◌≡◌, ℕ, ◌+◌, ◌*◌, ◌≤◌, Bool, true, false, ◌&&◌, leb, List, length, Ok, Err, Result, sym, refl, ap, ◌∙◌, ap₂, mul-le-mul, arith}
+use Rattle.std.proofs.Common.{◌≡◌, ℕ, ◌+◌, ◌*◌, ◌≤◌, Bool, true, false, ◌&&◌, leb, List, length, Ok, Err, Result, sym, refl, ap, ◌∙◌, subst, ap₂, mul-le-mul, arith}
 use Rattle.std.proofs.ByRecursion.{All-weaker}
+use Rattle.std.proofs.lemmas.Bool.{le-leb}
 use Rattle.interval.specs.declared.marks.Interval.{Interval}
 use Rattle.interval.specs.declared.reason.Reason.{Reason}
 use Rattle.interval.specs.declared.reason.Reason.TheVariants.{TooManyMonomials, DoesNotFit}
@@ -15,20 +16,20 @@ use Rattle.table.specs.Slice as slice
 use Rattle.polynomial.specs.Reach.{zero_term, dropped}
 use Rattle.polynomial.specs.Method.{MethodMeaning}
 use Rattle.taylor.specs.declared.model.ModelRecord.{ModelRecord}
-use Rattle.taylor.specs.declared.gathering.TallyRecord.{TallyRecord}
+use Rattle.taylor.specs.declared.tally.TallyRecord.{TallyRecord}
 use Rattle.taylor.specs.declared.worked.WorkedRecord.{WorkedRecord}
 use Rattle.taylor.specs.Model.{Model, model, packed, unpacked, tested}
 use Rattle.taylor.specs.Form.{greatest_order, Normal, Formed}
 use Rattle.taylor.specs.Product.{Worked, worked, pairs, three_fit, joint_remainder, product, times_worked}
 use Rattle.taylor.specs.Keeping.{room}
 use Rattle.taylor.specs.Record.{Held, Ready, recorded, passed, recorded_worked}
-use Rattle.taylor.specs.Gathering.{Tally, no_pairs, tally, product_tally, roomy, completed, tally_of, packed_tally, recorded_tally, InPlaces, Tallies}
+use Rattle.taylor.specs.Gathering.{Tally, no_pairs, tally, product_tally, roomy, completed, tally_of, counted, Took}
 use Rattle.taylor.proofs.Results.{same-value, not_refused, and_then_ok, require_ok, require_yes}
 use Rattle.taylor.proofs.Made.{test_made}
 use Rattle.taylor.proofs.Forms.{product_formed}
 use Rattle.taylor.proofs.Keeps.{packing}
 use Rattle.taylor.proofs.Completing.{product-tallied, times-tallied}
-use Rattle.taylor.proofs.Sizes.{sized_zero}
+use Rattle.taylor.proofs.Tallying.{tallied_kept}
 use Rattle.taylor.proofs.Packed.{record_of, swept}
 
 -- ---- results
@@ -41,13 +42,6 @@ and_then_err (Ok x) f e h = absurd (not_refused h)
 and_then_err (Err d) f e h = ap Err (sym (same_reason h))
 
 -- ---- the pairs
-pub tallies_none : (order : ℕ) → Tallies order (packed_tally no_pairs)
-tallies_none order = record {
-  packs = record { whole = refl; size = refl; fits = omega arith };
-  few = omega arith;
-  bounds = record { draft = record { ascends = tt; each = tt }; remainder = sized_zero 0 };
-}
-
 pub pairs-few : {m : MethodMeaning} {a b : ModelRecord} → Ready m a → Ready m b → 0 + length (unpacked a).terms * length (unpacked b).terms ≤ 1600
 pairs-few f g = omega (arith, mul-le-mul f.canonical.packs.fits g.canonical.packs.fits)
 
@@ -57,16 +51,25 @@ refused-same true d e x r h = absurd (not_refused h)
 refused-same false d e x r h = ap Err (same_reason h)
 
 -- the terms ps and qs of A and B were lent to the record Y of no pairs
-module _ (k : KindMeaning) (order : ℕ) (A B : Model) (Y : TallyRecord) (ps qs : List Term) (start : Y ≡ packed_tally no_pairs) (first : ps ≡ A.terms) (second : qs ≡ B.terms) where
+module _ (k : KindMeaning) (order : ℕ) (A B : Model) (Y : TallyRecord) (ps qs : List Term) (start : tally_of Y ≡ no_pairs) (first : ps ≡ A.terms) (second : qs ≡ B.terms) where
   same-tally : tally k order (tally_of Y) (pairs k.scale ps qs) ≡ product_tally k order A B
-  same-tally = ap (λ (R : TallyRecord). tally k order (tally_of R) (pairs k.scale ps qs)) start ∙ ap₂ (λ us vs. tally k order no_pairs (pairs k.scale us vs)) first second
+  same-tally = ap (λ y. tally k order y (pairs k.scale ps qs)) start ∙ ap₂ (λ us vs. tally k order no_pairs (pairs k.scale us vs)) first second
 
-  pub gathered-refused : (e : Reason) → Err e ≡ roomy (tally k order (tally_of Y) (pairs k.scale ps qs)).model → Err e ≡ recorded_tally (product_tally k order A B)
+  pub gathered-refused : (e : Reason) → Err e ≡ roomy (tally k order (tally_of Y) (pairs k.scale ps qs)).model → Err e ≡ counted (product_tally k order A B)
   gathered-refused e h = refused-same (leb (length (product_tally k order A B).model.terms) 40) TooManyMonomials e tt _ (h ∙ ap (λ y. roomy y.model) same-tally)
 
+  pub gathered-came : (Z : TallyRecord) → Took k order Y (pairs k.scale ps qs) (Ok tt) Z → Ok (tally_of Z) ≡ counted (product_tally k order A B)
+  gathered-came Z t =
+      let few = (tallied_kept Z.form).packs.fits in
+      let is = t.after ∙ same-tally in
+      ap Ok is ∙ sym (require_yes (leb (length (product_tally k order A B).model.terms) 40) TooManyMonomials _ (le-leb _ 40 (subst (λ y. length y.model.terms ≤ 40) is few)))
+
 -- ---- the product from its pairs
-pub tally_left : {order : ℕ} {Z : TallyRecord} → Tallies order Z → Sized (1600 * twice_limit) Z.model.remainder
-tally_left form = let few = form.few in sized_weaken (omega arith) form.bounds.remainder
+pub tally_left : (Z : TallyRecord) → Sized (1600 * twice_limit) Z.model.remainder
+tally_left Z =
+    let T = tallied_kept Z.form in
+    let few = T.few in
+    sized_weaken (omega arith) T.bounds.remainder
 
 module _ (k : KindMeaning) (m : MethodMeaning) (Y : TallyRecord) (M N : Model) where
   abbrev rest : Result Interval Reason
@@ -80,13 +83,13 @@ module _ (k : KindMeaning) (m : MethodMeaning) (Y : TallyRecord) (M N : Model) w
   unfolding completed
   rest_unfit t e h = rw t (ap recorded (refused-same (three_fit k m M N) DoesNotFit e _ _ h))
 
-  pub completed_made : Y.fit ≡ true → (r : Interval) → Ok r ≡ rest → InPlaces Y.model
+  pub completed_made : Y.fit ≡ true → (r : Interval) → Ok r ≡ rest
       → (after : List Term) (n : ℕ) → n ≡ length (dropped (unpacked Y.model).terms) → after ≡ over (slice.packed Y.model.count zero_term (dropped (unpacked Y.model).terms)) Y.model.terms
       → Ok (record { count = n; terms = after; remainder = r }) ≡ recorded (completed k m (tally_of Y) M N)
   unfolding completed
-  completed_made t r h p after n size is =
+  completed_made t r h after n size is =
       let a = require_ok (three_fit k m M N) DoesNotFit (Ok (joint_remainder k m M N Y.model.remainder)) (sym h) in
-      let q = swept Y.model.terms Y.model.count (unpacked Y.model).terms p after n size is in
+      let q = swept Y.model.terms Y.model.count (unpacked Y.model).terms (tallied_kept Y.form).packs after n size is in
       rw (t, a.0) (ap Ok (record_of after n (dropped (unpacked Y.model).terms) r q ∙ ap (λ i. packed (model (dropped (unpacked Y.model).terms) i)) (sym (same-value a.1))))
 
 -- ---- the tested product
@@ -110,15 +113,15 @@ module _ (k : KindMeaning) (m : MethodMeaning) (order : ℕ) (w : Worked) (N : M
   made_by : joined (require (leb (length U.model.terms) 40) TooManyMonomials (completed k m U w.model N)) ≡ worked_out
   made_by = ap recorded_worked (sym (times-tallied k m order w N))
 
-  pub too_many : (e : Reason) → Err e ≡ recorded_tally U → Err e ≡ worked_out
-  too_many e h = ap joined (refused-same (leb (length U.model.terms) 40) TooManyMonomials e (packed_tally U) (completed k m U w.model N) h) ∙ made_by
+  pub too_many : (e : Reason) → Err e ≡ counted U → Err e ≡ worked_out
+  too_many e h = ap joined (refused-same (leb (length U.model.terms) 40) TooManyMonomials e U (completed k m U w.model N) h) ∙ made_by
 
-  module _ (y : TallyRecord) (g : Ok y ≡ recorded_tally U) where
-    room_for : (leb (length U.model.terms) 40 ≡ true) × (◌≡◌ {A = Result TallyRecord Reason} (Ok (packed_tally U)) (Ok y))
-    room_for = require_ok (leb (length U.model.terms) 40) TooManyMonomials (Ok (packed_tally U)) (sym g)
+  module _ (y : TallyRecord) (g : Ok (tally_of y) ≡ counted U) where
+    room_for : (leb (length U.model.terms) 40 ≡ true) × (◌≡◌ {A = Result Tally Reason} (Ok U) (Ok (tally_of y)))
+    room_for = require_ok (leb (length U.model.terms) 40) TooManyMonomials (Ok U) (sym g)
 
     gathers : tally_of y ≡ U
-    gathers = ap tally_of (sym (same-value room_for.1)) ∙ (λ i. record { model = packing.back U.model i; pairs = U.pairs; clean = U.clean; fit = U.fit })
+    gathers = sym (same-value room_for.1)
 
     abbrev outcome : Result Model Reason
     outcome = completed k m (tally_of y) w.model N

@@ -38,7 +38,7 @@ pub product-joins : {n : ℕ} {i j r : Interval} → Sized n i → Fits j → r 
 product-joins s f e = rw e (sized-plus s f)
 
 -- ---- the facts of an operand have one proof
-ascending-one : (ts : List Term) → IsProp (Ascending by_degree (λ t. t.monomial) ts)
+pub ascending-one : (ts : List Term) → IsProp (Ascending by_degree (λ t. t.monomial) ts)
 ascending-one [] = Unit-prop
 ascending-one (t ∷ []) = ×_prop Unit-prop Unit-prop
 ascending-one (t ∷ (u ∷ ts)) = ×_prop (Ordering-set _ _) (ascending-one (u ∷ ts))

@@ -1,7 +1,7 @@
 -- Pairs that come row by row: what is left of them brings the tally to the same end. Assumes nothing.
 use Rattle.std.proofs.Common.{◌≡◌, ℕ, ◌+◌, ◌*◌, ◌<◌, ◌≤◌, Bool, true, false, cond, leb, List, [], ◌∷◌, ◌++◌, length, get_or, drop, ◌≤ℤ◌, Ok, Err, fold, sym, refl, ap, ◌∙◌, subst, mul-le-mul_right, add-mul, add-one-le, arith}
 use Rattle.std.proofs.lemmas.List.{at_drop_more, at_drop_all}
-use Rattle.std.proofs.lemmas.Bool.{false≢true, leb-false, le-leb, lt-leb}
+use Rattle.std.proofs.lemmas.Bool.{leb-false, le-leb, lt-leb}
 use Rattle.interval.specs.declared.reason.Reason.{Reason}
 use Rattle.interval.specs.declared.reason.Reason.TheVariants.{TooManyMonomials}
 use Rattle.interval.specs.Kind.{KindMeaning}
@@ -11,10 +11,10 @@ use Rattle.table.proofs.Growth.{entered_grows}
 use Rattle.polynomial.specs.declared.term.Term.{Term}
 use Rattle.polynomial.specs.Reach.{term, joined}
 use Rattle.polynomial.proofs.Coefficients.{unread}
-use Rattle.taylor.specs.declared.gathering.TallyRecord.{TallyRecord}
-use Rattle.taylor.specs.Model.{Model}
+use Rattle.taylor.specs.declared.tally.TallyRecord.{TallyRecord}
+use Rattle.taylor.specs.Model.{Model, unpacked}
 use Rattle.taylor.specs.Product.{pair, row, pairs, kept, keep, cut, gather}
-use Rattle.taylor.specs.Gathering.{Tally, held, tallied, tally, roomy, tally_of, Tallies, Took}
+use Rattle.taylor.specs.Gathering.{Tally, held, tallied, tally, roomy, tally_of, Took}
 use Rattle.taylor.proofs.Results.{not_refused, require_yes}
 use Rattle.taylor.proofs.Sizes.{scale-above, times-order}
 
@@ -46,14 +46,14 @@ module _ (k : KindMeaning) (order : ℕ) where
           let more : 40 < length G.model.terms = rw (← q) (omega (arith, leb-false (length y.model.terms) 40 s, tally_grows y rest)) in
           r ∙ rw (lt-leb (length G.model.terms) 40 more) refl
 
-  pub took_all : (Y Z : TallyRecord) (ts : List Term) → tally_of Z ≡ tally k order (tally_of Y) ts → Tallies order Z → Took k order Y ts (Ok tt) Z
-  took_all Y Z ts e form =
+  pub took_all : (Y Z : TallyRecord) (ts : List Term) → tally_of Z ≡ tally k order (tally_of Y) ts → length (unpacked Z.model).terms ≤ 40 → Took k order Y ts (Ok tt) Z
+  took_all Y Z ts e most =
       let n = length (tally k order (tally_of Y) ts).model.terms in
-      let few : n ≤ 40 = subst (λ y. length y.model.terms ≤ 40) e form.packs.fits in
-      record { value = sym (require_yes (leb n 40) TooManyMonomials (Ok tt) (le-leb n 40 few)); after = λ _. e; form = λ _. form }
+      let few : n ≤ 40 = subst (λ y. length y.model.terms ≤ 40) e most in
+      record { value = sym (require_yes (leb n 40) TooManyMonomials (Ok tt) (le-leb n 40 few)); after = e }
 
   pub took_none : (Y Z : TallyRecord) (ts : List Term) (e : Reason) → Err e ≡ roomy (tally k order (tally_of Y) ts).model → Took k order Y ts (Err e) Z
-  took_none Y Z ts e h = record { value = h; after = λ q. absurd (false≢true q); form = λ q. absurd (false≢true q) }
+  took_none Y Z ts e h = record { value = h; after = tt }
 
   abbrev S : ℕ
   S = k.scale

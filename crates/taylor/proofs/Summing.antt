@@ -46,7 +46,10 @@ uncounted many false e = refl
 pub entered_some : {o : Option ℕ} {n : ℕ} {after : List Term} (full terms : List Term) → o ≡ Some n → after ≡ (if is_some o then full else terms) → after ≡ full
 entered_some full terms e is = is ∙ ap (λ q. if is_some q then full else terms) e
 
--- and where it is none, the reason is the one given
+-- and where it is none: nothing was written, and the reason is the one given
+pub unentered : {o : Option ℕ} {after : List Term} (full terms : List Term) → o ≡ None → after ≡ (if is_some o then full else terms) → after ≡ terms
+unentered full terms e is = is ∙ ap (λ q. if is_some q then full else terms) e
+
 pub entered_none : {o : Option ℕ} {e d : Reason} → o ≡ None → Err e ≡ ok_or o d → e ≡ d
 entered_none {e = e} {d = d} n h = let q : ◌≡◌ {A = Result ℕ Reason} (Err e) (Err d) = h ∙ ap (λ p. ok_or p d) n in cc
 

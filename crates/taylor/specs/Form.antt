@@ -1,7 +1,8 @@
 -- The form that models keep: ascending terms, bounded degrees and bounded ends. Assumes nothing.
-use Rattle.std.specs.Prelude.{◌≡◌, ℕ, ◌≤◌, false, List, length, ◌≤ℤ◌}
+use Rattle.std.specs.Prelude.{◌≡◌, ℕ, ◌*◌, ◌≤◌, false, List, length, ◌≤ℤ◌}
 use Rattle.std.specs.List.{AllByRecursion}
 use Rattle.interval.specs.Interval.{limit, Sized, Fits, is_zero}
+use Rattle.interval.specs.Kind.{twice_limit}
 use Rattle.table.specs.Monomial.{degree}
 use Rattle.table.specs.Order.{by_degree}
 use Rattle.table.specs.Slice.{Packs}
@@ -70,3 +71,14 @@ pub record Draft (d n : ℕ) (ts : List Term) : Type 0 where
 pub record Gathering (d n r : ℕ) (M : Model) : Type 0 where
   pub draft : Draft d n M.terms
   pub remainder : Sized r M.remainder
+
+-- ---- the record that pairs are gathered into
+-- the terms in use come first, and zero terms after them
+abbrev pub InPlaces : ModelRecord → Type 0
+InPlaces M = Packs 40 zero_term M.terms M.count (unpacked M).terms
+
+-- packed terms, and ends that so many pairs can add up to
+pub record Tallied (pairs : ℕ) (M : ModelRecord) : Type 0 where
+  pub packs : InPlaces M
+  pub few : pairs ≤ 1600
+  pub bounds : Gathering greatest_order (pairs * limit) (pairs * twice_limit) (unpacked M)

@@ -1,21 +1,19 @@
 -- The pairs of a product as they come, in one pass: the model so far, and what is told of the pairs. Assumes nothing.
-use Rattle.std.specs.Prelude.{◌≡◌, ℕ, ◌+◌, ◌-◌, ◌*◌, ◌^◌, ◌≤◌, Bool, true, cond, ◌&&◌, List, length, is_ok, Ok, fold, Result, nat_le}
-use Rattle.std.specs.List.{AllByRecursion}
+use Rattle.std.specs.Prelude.{◌≡◌, ℕ, ◌+◌, ◌-◌, ◌^◌, ◌≤◌, Bool, true, cond, ◌&&◌, List, length, OnOk, Ok, fold, Result, nat_le}
 use Rattle.interval.specs.declared.marks.Interval.{Interval}
 use Rattle.interval.specs.declared.reason.Reason.{Reason}
 use Rattle.interval.specs.declared.reason.Reason.TheVariants.{TooManyMonomials, DoesNotFit}
-use Rattle.interval.specs.Interval.{limit, Fits, zero_interval, fits}
-use Rattle.interval.specs.Kind.{KindMeaning, twice_limit}
-use Rattle.interval.specs.Reason.{require}
+use Rattle.interval.specs.Interval.{Fits, zero_interval, fits}
+use Rattle.interval.specs.Kind.{KindMeaning}
+use Rattle.interval.specs.Reason.{and_then, require}
 use Rattle.table.specs.Monomial.{degree}
-use Rattle.table.specs.Slice.{Packs}
 use Rattle.polynomial.specs.declared.term.Term.{Term}
-use Rattle.polynomial.specs.Reach.{term, zero_term, dropped}
+use Rattle.polynomial.specs.Reach.{term, dropped}
 use Rattle.polynomial.specs.Method.{MethodMeaning}
 use Rattle.taylor.specs.declared.model.ModelRecord.{ModelRecord}
-use Rattle.taylor.specs.declared.gathering.TallyRecord.{TallyRecord}
-use Rattle.taylor.specs.Model.{Model, model, zero_model, packed, unpacked}
-use Rattle.taylor.specs.Form.{greatest_order, SizedModel, Gathering}
+use Rattle.taylor.specs.declared.tally.TallyRecord.{TallyRecord}
+use Rattle.taylor.specs.Model.{Model, model, zero_model, unpacked}
+use Rattle.taylor.specs.Form.{greatest_order, SizedModel, InPlaces}
 use Rattle.taylor.specs.Product.{kept, gather, product_pairs, three_fit, joint_remainder}
 
 -- a hull that does not fit is held as [0, 0]
@@ -62,44 +60,29 @@ completed k m y M N =
     require (y.fit && three_fit k m M N) DoesNotFit (Ok (model (dropped y.model.terms) (joint_remainder k m M N y.model.remainder)))
 
 -- ---- records
--- a tally's record as the tally, and the other way round
+-- a tally's record as the tally
 abbrev pub tally_of : TallyRecord → Tally
 tally_of r = record { model = unpacked r.model; pairs = r.pairs; clean = r.clean; fit = r.fit }
 
-abbrev pub packed_tally : Tally → TallyRecord
-packed_tally y = record { model = packed y.model; pairs = y.pairs; clean = y.clean; fit = y.fit }
+-- a tally of at most 40 monomials, or the refusal
+abbrev pub counted : Tally → Result Tally Reason
+counted y = require (nat_le (length y.model.terms) 40) TooManyMonomials (Ok y)
 
--- the record of a tally of at most 40 monomials, or the refusal
-abbrev pub recorded_tally : Tally → Result TallyRecord Reason
-recorded_tally y = require (nat_le (length y.model.terms) 40) TooManyMonomials (Ok (packed_tally y))
-
--- the terms in use come first, and zero terms after them
-abbrev pub InPlaces : ModelRecord → Type 0
-InPlaces M = Packs 40 zero_term M.terms M.count (unpacked M).terms
+-- a tally's record that comes out, as the tally
+abbrev pub told : Result TallyRecord Reason → Result Tally Reason
+told r = and_then r (λ y. Ok (tally_of y))
 
 -- packed terms, and ends so small that they can be added to
 pub record Open (M : ModelRecord) : Type 0 where
   pub packs : InPlaces M
   pub sized : SizedModel (2 ^ 62 - 1) (unpacked M)
 
--- packed terms, and ends that so many pairs can add up to
-pub record Tallies (order : ℕ) (r : TallyRecord) : Type 0 where
-  pub packs : InPlaces r.model
-  pub few : r.pairs ≤ 1600
-  pub bounds : Gathering order (r.pairs * limit) (r.pairs * twice_limit) (unpacked r.model)
-
 -- a term of an operand: its coefficient fits, and its degree is at most the greatest order
 pub record Factor (t : Term) : Type 0 where
   pub fit : Fits t.coefficient
   pub low : degree t.monomial ≤ greatest_order
 
--- an operand's record: packed, of such terms
-pub record Factors (r : ModelRecord) : Type 0 where
-  pub packs : InPlaces r
-  pub each : AllByRecursion Factor (unpacked r).terms
-
 -- what the pairs ts make of the record Y: a refusal at more than 40 monomials, else the tally with them
 pub record Took (k : KindMeaning) (order : ℕ) (Y : TallyRecord) (ts : List Term) (r : Result Unit Reason) (Z : TallyRecord) : Type 0 where
   pub value : r ≡ roomy (tally k order (tally_of Y) ts).model
-  pub after : is_ok r ≡ true → tally_of Z ≡ tally k order (tally_of Y) ts
-  pub form : is_ok r ≡ true → Tallies order Z
+  pub after : OnOk r (tally_of Z ≡ tally k order (tally_of Y) ts)

@@ -1,25 +1,18 @@
 // The pairs of a product as they come, gathered into a model in one pass.
-ghost use Rattle.std.specs.Prelude.{◌≡◌, ◌+◌, ◌*◌, ◌<◌, ◌≤◌, true, ◌&&◌, [], ◌∷◌, length, ◌≤ℤ◌, is_ok};
+ghost use Rattle.std.specs.Prelude.{◌≡◌, ◌+◌, ◌*◌, ◌<◌, ◌≤◌, ◌&&◌, [], ◌∷◌, length, ◌≤ℤ◌, OnOk, OnErr};
 ghost use Rattle.std.specs.List.{AllByRecursion};
 ghost use Rattle.interval.specs.Interval.{Fits, fits};
+ghost use Rattle.taylor.specs.Form.{InPlaces};
+ghost use Rattle.taylor.specs.Gathering.{held, no_pairs, roomy, tally_of, Open, Factor, Took};
 ghost use Rattle.taylor.specs.Model.{unpacked};
 ghost use Rattle.taylor.specs.Product.{pair as pair_of, row, pairs as all_pairs, keep, cut};
-ghost use Rattle.taylor.specs.Gathering.{held, no_pairs, roomy, packed_tally, InPlaces, Open, Tallies, Factor, Took};
 
 use crate::arithmetic::Arithmetic;
 use crate::model::ModelRecord;
+use crate::tally::TallyRecord;
 use interval::{Interval, Kind, Reason};
 use polynomial::{Term, enter, reach};
 use table::{degree, product};
-
-// The model so far, how many pairs came, whether none was cut, and whether every hull fits.
-#[derive(Clone, Copy)]
-pub struct TallyRecord {
-    pub model: ModelRecord,
-    pub pairs: u64,
-    pub clean: bool,
-    pub fit: bool,
-}
 
 // A pair: the product of the monomials, with the hull.
 fn pair<K: Kind>(kind: &K, p: Term, q: Term) -> Term
@@ -38,8 +31,9 @@ fn keep<K: Kind>(model: &mut ModelRecord, kind: &K, pair: Term) -> Result<(), Re
     requires form { Open model.old }
     requires fit { Fits pair.coefficient }
     ensures value { result ≡ roomy (keep (K.meaning kind.now) (unpacked model.old) pair) }
-    ensures after { is_ok result ≡ true → unpacked model.new ≡ keep (K.meaning kind.now) (unpacked model.old) pair }
-    ensures packs { is_ok result ≡ true → InPlaces model.new }
+    ensures after { OnOk result (unpacked model.new ≡ keep (K.meaning kind.now) (unpacked model.old) pair) }
+    ensures packs { OnOk result (InPlaces model.new) }
+    ensures refused { OnErr result (model.new ≡ model.old) }
 {
     let (coefficient, leftover) = kind.split(pair.coefficient);
     let term = Term {
@@ -61,10 +55,25 @@ fn cut(model: &mut ModelRecord, pair: Term)
     model.remainder = model.remainder.plus(reach(pair.monomial, pair.coefficient));
 }
 
+// A hull that does not fit is noted, and held as [0, 0].
+fn hold(fit: &mut bool, pair: Term) -> Term
+    ensures value { result ≡ held pair }
+    ensures after { fit.new ≡ (fit.old && fits pair.coefficient) }
+{
+    if pair.coefficient.fits() {
+        return pair;
+    }
+    *fit = false;
+    Term {
+        coefficient: Interval { lower: 0, upper: 0 },
+        ..pair
+    }
+}
+
 impl TallyRecord {
     // Before the first pair.
     pub fn new() -> TallyRecord
-        ensures value { result ≡ packed_tally no_pairs }
+        ensures value { tally_of result ≡ no_pairs }
     {
         TallyRecord {
             model: ModelRecord::zero(),
@@ -74,29 +83,13 @@ impl TallyRecord {
         }
     }
 
-    // A hull that does not fit is noted, and held as [0, 0].
-    fn hold(&mut self, pair: Term) -> Term
-        ensures value { result ≡ held pair }
-        ensures after { self.new ≡ record { model = self.old.model; pairs = self.old.pairs; clean = self.old.clean; fit = self.old.fit && fits pair.coefficient } }
-    {
-        if pair.coefficient.fits() {
-            return pair;
-        }
-        self.fit = false;
-        Term {
-            coefficient: Interval { lower: 0, upper: 0 },
-            ..pair
-        }
-    }
-
     // A pair of at most the order's degree is kept, any other cut.
     fn take<K: Kind, M>(&mut self, by: &Arithmetic<'_, K, M>, pair: Term) -> Result<(), Reason>
-        requires form { Tallies by.now.order self.old }
         requires few { self.old.pairs < 1600 }
         requires ends { pair.coefficient.lower ≤ℤ pair.coefficient.upper }
         ensures took { Took (K.meaning by.now.kind.now) by.now.order self.old (pair ∷ []) result self.new }
     {
-        let pair = self.hold(pair);
+        let pair = hold(&mut self.fit, pair);
         self.pairs += 1;
         if degree(pair.monomial) <= by.order {
             return keep(&mut self.model, by.kind, pair);
@@ -113,7 +106,6 @@ impl TallyRecord {
         p: Term,
         qs: &[Term],
     ) -> Result<(), Reason>
-        requires form { Tallies by.now.order self.old }
         requires few { self.old.pairs + length qs.now ≤ 1600 }
         requires factors { (Factor p) × (AllByRecursion Factor qs.now) }
         ensures took { Took (K.meaning by.now.kind.now) by.now.order self.old (row (K.meaning by.now.kind.now).scale p qs.now) result self.new }
@@ -131,7 +123,6 @@ impl TallyRecord {
         ps: &[Term],
         qs: &[Term],
     ) -> Result<(), Reason>
-        requires form { Tallies by.now.order self.old }
         requires few { self.old.pairs + length ps.now * length qs.now ≤ 1600 }
         requires factors { (AllByRecursion Factor ps.now) × (AllByRecursion Factor qs.now) }
         ensures took { Took (K.meaning by.now.kind.now) by.now.order self.old (all_pairs (K.meaning by.now.kind.now).scale ps.now qs.now) result self.new }

@@ -9,6 +9,7 @@ mod model; // the record of a model
 mod multiplying; // products
 mod powers; // powers
 mod sums; // sums and differences
+mod tally; // what pairs are gathered into
 mod testing; // the test of a model
 mod worked; // a model with the pairs that it made
 

@@ -1,17 +1,17 @@
 // Products of models.
-ghost use Rattle.std.specs.Prelude.{◌≡◌, ◌*◌, ◌^◌, ◌<◌, IfOk, Ok};
+ghost use Rattle.std.specs.Prelude.{◌≡◌, ◌*◌, ◌^◌, ◌<◌, Ok};
 ghost use Rattle.interval.specs.Interval.{Sized};
 ghost use Rattle.interval.specs.Kind.{twice_limit};
 ghost use Rattle.interval.specs.Reason.{require};
 ghost use Rattle.interval.specs.declared.reason.Reason.TheVariants.{DoesNotFit};
-ghost use Rattle.taylor.specs.Gathering.{product_tally, completed, tally_of, recorded_tally, InPlaces, Tallies};
+ghost use Rattle.taylor.specs.Gathering.{product_tally, completed, tally_of, counted, told};
 ghost use Rattle.taylor.specs.Model.{unpacked};
 ghost use Rattle.taylor.specs.Product.{range_remainder, three_fit, joint_remainder, times_worked};
 ghost use Rattle.taylor.specs.Record.{Ready, recorded, worked_of, recorded_worked};
 
 use crate::arithmetic::Arithmetic;
-use crate::gathering::TallyRecord;
 use crate::model::ModelRecord;
+use crate::tally::TallyRecord;
 use crate::testing::test;
 use crate::worked::WorkedRecord;
 use interval::{Interval, Kind, Reason};
@@ -31,8 +31,7 @@ struct Product<'a, K: Kind, M: Ranging> {
 impl<'a, K: Kind, M: Ranging> Product<'a, K, M> {
     // The pairs of the operands.
     fn gathered(&self) -> Result<TallyRecord, Reason>
-        ensures value { result ≡ recorded_tally (product_tally (K.Kind.meaning self.now.by.now.kind.now) self.now.by.now.order (unpacked self.now.a.now) (unpacked self.now.b.now)) }
-        ensures form { IfOk result (Tallies self.now.by.now.order) }
+        ensures { told result ≡ counted (product_tally (K.Kind.meaning self.now.by.now.kind.now) self.now.by.now.order (unpacked self.now.a.now) (unpacked self.now.b.now)) }
     {
         let mut tally = TallyRecord::new();
         tally.take_pairs(self.by, self.a.used(), self.b.used())?;
@@ -71,8 +70,6 @@ impl<'a, K: Kind, M: Ranging> Product<'a, K, M> {
 
     // Drops [0, 0] from the gathered terms and adds the remainders up, if every hull fits.
     fn completed(&self, tally: &TallyRecord) -> Result<ModelRecord, Reason>
-        requires packs { InPlaces tally.now.model }
-        requires left { Sized (1600 * twice_limit) tally.now.model.remainder }
         ensures value { result ≡ recorded (completed (K.Kind.meaning self.now.by.now.kind.now) (M.Ranging.meaning self.now.by.now.method.now) (tally_of tally.now) (unpacked self.now.a.now) (unpacked self.now.b.now)) }
     {
         if !tally.fit {

@@ -1,10 +1,9 @@
 -- There is room for one term more, or the refusal; its leftover's reach can be added.
-use Rattle.std.proofs.Common.{lit≤, sym, ◌∙◌}
-use Rattle.std.proofs.lemmas.Bool.{false≢true}
+use Rattle.std.proofs.Common.{lit≤, sym, ap, ◌∙◌}
 use Rattle.interval.specs.Kind.{twice_limit}
 use Rattle.taylor.proofs.Results.{passed_on}
 use Rattle.taylor.proofs.Operands.{places_room}
-use Rattle.taylor.proofs.Summing.{entered_some}
+use Rattle.taylor.proofs.Summing.{entered_some, unentered}
 use Rattle.taylor.proofs.Entering.{open_joins, open_remainder, kept_pair, refused_pair}
 use Rattle.taylor.proofs.gathering.keep.Goals as goal
 
@@ -24,10 +23,12 @@ pub returns-in_err-count : goal.returns-in_err-count
 returns-in_err-count g c =
     let p = passed_on c.from_residual.result c.from_residual.ensures.1 in
     let h = c.in_err-count.ensures in
+    let M = c.args.model.now in
     rw p (record {
-      value = refused_pair c.args.model.now c.requires.form (g.K.Kind.meaning c.args.kind.now) c.args.pair c.split.result c.split.ensures.value h.ok_part c.enter.ensures.value h.value;
-      after = λ q. absurd (false≢true q);
-      packs = λ q. absurd (false≢true q);
+      value = refused_pair M c.requires.form (g.K.Kind.meaning c.args.kind.now) c.args.pair c.split.result c.split.ensures.value h.ok_part c.enter.ensures.value h.value;
+      after = tt;
+      packs = tt;
+      refused = ap (λ ts. record { count = M.count; terms = ts; remainder = M.remainder }) (unentered _ _ h.ok_part c.enter.ensures.after);
     })
 
 pub returns : goal.returns
@@ -37,4 +38,4 @@ returns g c =
     let k = kept_pair M c.requires.form (g.K.Kind.meaning c.args.kind.now) c.args.pair c.split.result c.split.ensures.value
     (record { count = c.in_ok-count.count; terms = c.enter.new.terms; remainder = c.plus-model.result })
     c.reach.result (sym room ∙ c.enter.ensures.value) (entered_some _ _ room c.enter.ensures.after) c.reach.ensures.value c.plus-model.ensures.value in
-    record { value = k.value; after = λ _. k.after; packs = λ _. k.packs }
+    record { value = k.value; after = k.after; packs = k.packs; refused = tt }

@@ -3,7 +3,8 @@ use Rattle.std.proofs.lemmas.Result.{err_from_is_err_and}
 use Rattle.table.proofs.Packing.{packs_long}
 use Rattle.taylor.specs.Model.{unpacked}
 use Rattle.taylor.proofs.Operands.{places_room}
-use Rattle.taylor.proofs.Multiplied.{hulls_unfit, rest_unfit, completed_made}
+use Rattle.taylor.proofs.Tallying.{tallied_kept}
+use Rattle.taylor.proofs.Multiplied.{tally_left, hulls_unfit, rest_unfit, completed_made}
 use Rattle.taylor.proofs.multiplying.Product.completed.Goals as goal
 
 pub returns-then-not-tally : goal.returns-then-not-tally
@@ -20,14 +21,17 @@ returns-in_err-remainder g c =
           c.in_err-remainder.field-0.0 c.in_err-remainder.ensures.value;
     })
 
+pub joint_remainder-requires : goal.joint_remainder-requires
+joint_remainder-requires g c = tally_left c.args.tally.now
+
 pub slice_bounds-drop_zeros-end : goal.slice_bounds-drop_zeros-end
-slice_bounds-drop_zeros-end g c = sym (packs_long 40 _ _ _ _ c.requires.packs)
+slice_bounds-drop_zeros-end g c = sym (packs_long 40 _ _ _ _ (tallied_kept c.args.tally.now.form).packs)
 
 pub drop_zeros-count-requires : goal.drop_zeros-count-requires
-drop_zeros-count-requires g c = places_room c.requires.packs
+drop_zeros-count-requires g c = places_room (tallied_kept c.args.tally.now.form).packs
 
 pub returns : goal.returns
 returns g c = record {
   value = completed_made (g.K.Kind.meaning c.args.self.now.by.now.kind.now) (g.M.Ranging.meaning c.args.self.now.by.now.method.now) c.args.tally.now (unpacked c.args.self.now.a.now) (unpacked c.args.self.now.b.now) c.if-not-tally.false
-      c.in_ok-remainder.remainder c.in_ok-remainder.ensures.value c.requires.packs c.drop_zeros-count.new.terms c.drop_zeros-count.result c.drop_zeros-count.ensures.value c.drop_zeros-count.ensures.after;
+      c.in_ok-remainder.remainder c.in_ok-remainder.ensures.value c.drop_zeros-count.new.terms c.drop_zeros-count.result c.drop_zeros-count.ensures.value c.drop_zeros-count.ensures.after;
 }

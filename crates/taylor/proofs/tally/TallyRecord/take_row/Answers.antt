@@ -5,8 +5,9 @@ use Rattle.std.proofs.lemmas.Result.{err_from_is_err_and}
 use Rattle.polynomial.proofs.Coefficients.{unread}
 use Rattle.taylor.specs.Product.{row}
 use Rattle.taylor.specs.Gathering.{tally_of, Factor}
+use Rattle.taylor.proofs.Tallying.{tallied_kept}
 use Rattle.taylor.proofs.Rows.{pair_ends, row_all, row_again, row-refused, took_all, took_none}
-use Rattle.taylor.proofs.gathering.TallyRecord.take_row.Goals as goal
+use Rattle.taylor.proofs.tally.TallyRecord.take_row.Goals as goal
 
 pub pair-requires : goal.pair-requires
 pair-requires g c = (c.requires.factors.0, All-get_or Factor c.args.qs.now c.loop-q.q-index unread c.loop-q-test.true c.requires.factors.1)
@@ -16,8 +17,7 @@ take-requires g c =
     let k = g.K.Kind.meaning c.args.by.now.kind.now in
     let inv = c.loop-q.invariant in
     record {
-      form = inv.0;
-      few = omega (arith, inv.1);
+      few = omega (arith, inv.0);
       ends = pair_ends k c.args.by.now.order c.args.p c.args.qs.now c.loop-q.q-index c.loop-q-test.true c.pair.result c.pair.ensures.value;
     }
 
@@ -26,7 +26,7 @@ returns-in_err-take g c =
     let k = g.K.Kind.meaning c.args.by.now.kind.now in
     let p = err_from_is_err_and {Q = λ e. e ≡ c.in_err-take.field-0.0} c.from_residual.result c.from_residual.ensures.1 in
     let r = row-refused k c.args.by.now.order c.args.p c.args.qs.now c.loop-q.q-index c.loop-q-test.true c.pair.result c.pair.ensures.value
-    (tally_of c.loop-q.self) _ c.in_err-take.field-0.0 c.in_err-take.ensures.took.value c.loop-q.invariant.2 in
+    (tally_of c.loop-q.self) _ c.in_err-take.field-0.0 c.in_err-take.ensures.took.value c.loop-q.invariant.1 in
     rw (p.1, p.2) (record { took = took_none k c.args.by.now.order c.args.self.now c.take.new.self (row k.scale c.args.p c.args.qs.now) c.in_err-take.field-0.0 r })
 
 pub loop-q-preserved : goal.loop-q-preserved
@@ -35,12 +35,12 @@ loop-q-preserved g c =
     let e = c.in_ok-take.ensures.took in
     let inv = c.loop-q.invariant in
     let more = row_again k c.args.by.now.order c.args.p c.args.qs.now c.loop-q.q-index c.loop-q-test.true c.pair.result c.pair.ensures.value
-    c.args.self.now.pairs (tally_of c.loop-q.self) (tally_of c.take.new.self) _ (e.after (refl {a = true})) inv.1 inv.2 in
-    (e.form (refl {a = true}), more.0, more.1)
+    c.args.self.now.pairs (tally_of c.loop-q.self) (tally_of c.take.new.self) _ e.after inv.0 inv.1 in
+    (more.0, more.1)
 
 pub returns : goal.returns
 returns g c =
     let k = g.K.Kind.meaning c.args.by.now.kind.now in
     let inv = c.loop-q.invariant in
-    let e = sym (row_all k c.args.by.now.order c.args.p c.args.qs.now c.loop-q.q-index c.loop-q-test.false (tally_of c.loop-q.self)) ∙ inv.2 in
-    record { took = took_all k c.args.by.now.order c.args.self.now c.loop-q.self (row k.scale c.args.p c.args.qs.now) e inv.0 }
+    let e = sym (row_all k c.args.by.now.order c.args.p c.args.qs.now c.loop-q.q-index c.loop-q-test.false (tally_of c.loop-q.self)) ∙ inv.1 in
+    record { took = took_all k c.args.by.now.order c.args.self.now c.loop-q.self (row k.scale c.args.p c.args.qs.now) e (tallied_kept c.loop-q.self.form).packs.fits }
