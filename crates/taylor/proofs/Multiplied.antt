@@ -20,10 +20,10 @@ use Rattle.taylor.specs.declared.tally.TallyRecord.{TallyRecord}
 use Rattle.taylor.specs.declared.worked.WorkedRecord.{WorkedRecord}
 use Rattle.taylor.specs.Model.{Model, model, packed, unpacked, tested}
 use Rattle.taylor.specs.Form.{greatest_order, Normal, Formed}
-use Rattle.taylor.specs.Product.{Worked, worked, pairs, three_fit, joint_remainder, product, times_worked}
+use Rattle.taylor.specs.Product.{Worked, worked, three_fit, joint_remainder, product, times_worked}
 use Rattle.taylor.specs.Keeping.{room}
 use Rattle.taylor.specs.Record.{Held, Ready, recorded, passed, recorded_worked}
-use Rattle.taylor.specs.Gathering.{Tally, no_pairs, tally, product_tally, roomy, completed, tally_of, counted, Took}
+use Rattle.taylor.specs.Gathering.{Tally, product_tally, roomy, completed, tally_of, counted}
 use Rattle.taylor.proofs.Results.{same-value, not_refused, and_then_ok, require_ok, require_yes}
 use Rattle.taylor.proofs.Made.{test_made}
 use Rattle.taylor.proofs.Forms.{product_formed}
@@ -42,7 +42,7 @@ and_then_err (Ok x) f e h = absurd (not_refused h)
 and_then_err (Err d) f e h = ap Err (sym (same_reason h))
 
 -- ---- the pairs
-pub pairs-few : {m : MethodMeaning} {a b : ModelRecord} → Ready m a → Ready m b → 0 + length (unpacked a).terms * length (unpacked b).terms ≤ 1600
+pub pairs-few : {m : MethodMeaning} {a b : ModelRecord} → Ready m a → Ready m b → length (unpacked a).terms * length (unpacked b).terms ≤ 1600
 pairs-few f g = omega (arith, mul-le-mul f.canonical.packs.fits g.canonical.packs.fits)
 
 -- a refusal is the same whatever would have come
@@ -50,19 +50,14 @@ refused-same : {A B : Type 0} (b : Bool) (d e : Reason) (x : A) (r : Result B Re
 refused-same true d e x r h = absurd (not_refused h)
 refused-same false d e x r h = ap Err (same_reason h)
 
--- the terms ps and qs of A and B were lent to the record Y of no pairs
-module _ (k : KindMeaning) (order : ℕ) (A B : Model) (Y : TallyRecord) (ps qs : List Term) (start : tally_of Y ≡ no_pairs) (first : ps ≡ A.terms) (second : qs ≡ B.terms) where
-  same-tally : tally k order (tally_of Y) (pairs k.scale ps qs) ≡ product_tally k order A B
-  same-tally = ap (λ y. tally k order y (pairs k.scale ps qs)) start ∙ ap₂ (λ us vs. tally k order no_pairs (pairs k.scale us vs)) first second
+-- the tally G of all pairs is refused, or it is told by the record that holds it
+pub counted_none : (G : Tally) (e : Reason) → Err e ≡ roomy G.model → Err e ≡ counted G
+counted_none G e h = refused-same (leb (length G.model.terms) 40) TooManyMonomials e tt _ h
 
-  pub gathered-refused : (e : Reason) → Err e ≡ roomy (tally k order (tally_of Y) (pairs k.scale ps qs)).model → Err e ≡ counted (product_tally k order A B)
-  gathered-refused e h = refused-same (leb (length (product_tally k order A B).model.terms) 40) TooManyMonomials e tt _ (h ∙ ap (λ y. roomy y.model) same-tally)
-
-  pub gathered-came : (Z : TallyRecord) → Took k order Y (pairs k.scale ps qs) (Ok tt) Z → Ok (tally_of Z) ≡ counted (product_tally k order A B)
-  gathered-came Z t =
-      let few = (tallied_kept Z.form).packs.fits in
-      let is = t.after ∙ same-tally in
-      ap Ok is ∙ sym (require_yes (leb (length (product_tally k order A B).model.terms) 40) TooManyMonomials _ (le-leb _ 40 (subst (λ y. length y.model.terms ≤ 40) is few)))
+pub counted_all : (Z : TallyRecord) {G : Tally} → tally_of Z ≡ G → Ok (tally_of Z) ≡ counted G
+counted_all Z {G} is =
+    let few : length G.model.terms ≤ 40 = subst (λ y. length y.model.terms ≤ 40) is (tallied_kept Z.form).packs.fits in
+    ap Ok is ∙ sym (require_yes (leb (length G.model.terms) 40) TooManyMonomials (Ok G) (le-leb (length G.model.terms) 40 few))
 
 -- ---- the product from its pairs
 pub tally_left : (Z : TallyRecord) → Sized (1600 * twice_limit) Z.model.remainder

@@ -51,7 +51,8 @@ pub fn variable(number: usize, of: &Variable) -> ModelRecord
     }
 }
 
-fn point(marks: i64) -> Interval
+// A number of marks.
+pub fn point(marks: i64) -> Interval
     ensures value { result ≡ interval marks marks }
 {
     Interval {

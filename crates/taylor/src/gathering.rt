@@ -1,11 +1,11 @@
 // The pairs of a product as they come, gathered into a model in one pass.
-ghost use Rattle.std.specs.Prelude.{◌≡◌, ◌+◌, ◌*◌, ◌<◌, ◌≤◌, ◌&&◌, [], ◌∷◌, length, ◌≤ℤ◌, OnOk, OnErr};
+ghost use Rattle.std.specs.Prelude.{◌≡◌, ◌+◌, ◌<◌, ◌≤◌, ◌&&◌, [], ◌∷◌, length, ◌≤ℤ◌, OnOk, OnErr};
 ghost use Rattle.std.specs.List.{AllByRecursion};
 ghost use Rattle.interval.specs.Interval.{Fits, fits};
 ghost use Rattle.taylor.specs.Form.{InPlaces};
 ghost use Rattle.taylor.specs.Gathering.{held, no_pairs, roomy, tally_of, Open, Factor, Took};
 ghost use Rattle.taylor.specs.Model.{unpacked};
-ghost use Rattle.taylor.specs.Product.{pair as pair_of, row, pairs as all_pairs, keep, cut};
+ghost use Rattle.taylor.specs.Product.{pair as pair_of, row, keep, cut};
 
 use crate::arithmetic::Arithmetic;
 use crate::model::ModelRecord;
@@ -100,7 +100,7 @@ impl TallyRecord {
     }
 
     // The pairs of one term.
-    fn take_row<K: Kind, M>(
+    pub fn take_row<K: Kind, M>(
         &mut self,
         by: &Arithmetic<'_, K, M>,
         p: Term,
@@ -112,23 +112,6 @@ impl TallyRecord {
     {
         for q in qs {
             self.take(by, pair(by.kind, p, *q))?;
-        }
-        Ok(())
-    }
-
-    // The pairs of all terms, row by row.
-    pub fn take_pairs<K: Kind, M>(
-        &mut self,
-        by: &Arithmetic<'_, K, M>,
-        ps: &[Term],
-        qs: &[Term],
-    ) -> Result<(), Reason>
-        requires few { self.old.pairs + length ps.now * length qs.now ≤ 1600 }
-        requires factors { (AllByRecursion Factor ps.now) × (AllByRecursion Factor qs.now) }
-        ensures took { Took (K.meaning by.now.kind.now) by.now.order self.old (all_pairs (K.meaning by.now.kind.now).scale ps.now qs.now) result self.new }
-    {
-        for p in ps {
-            self.take_row(by, *p, qs)?;
         }
         Ok(())
     }

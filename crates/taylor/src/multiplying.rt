@@ -29,12 +29,14 @@ struct Product<'a, K: Kind, M: Ranging> {
 }
 
 impl<'a, K: Kind, M: Ranging> Product<'a, K, M> {
-    // The pairs of the operands.
+    // The pairs of all terms, row by row.
     fn gathered(&self) -> Result<TallyRecord, Reason>
         ensures { told result ≡ counted (product_tally (K.Kind.meaning self.now.by.now.kind.now) self.now.by.now.order (unpacked self.now.a.now) (unpacked self.now.b.now)) }
     {
         let mut tally = TallyRecord::new();
-        tally.take_pairs(self.by, self.a.used(), self.b.used())?;
+        for p in self.a.used() {
+            tally.take_row(self.by, *p, self.b.used())?;
+        }
         Ok(tally)
     }
 

@@ -1,9 +1,9 @@
 -- Each way out of the product, from the tally of its pairs.
 use Rattle.std.proofs.Common.{◌≡◌, ◌+◌, Bool, ◌&&◌, Ok, refl}
-use Rattle.std.proofs.lemmas.Result.{err_from_is_err_and}
 use Rattle.taylor.specs.Model.{unpacked}
 use Rattle.taylor.specs.Product.{times_worked}
 use Rattle.taylor.specs.Record.{worked_of, recorded_worked}
+use Rattle.taylor.proofs.Results.{passed_on}
 use Rattle.taylor.proofs.Multiplied.{too_many, unfit, untested, result_held, multiplied}
 use Rattle.taylor.proofs.arithmetic.Arithmetic.times.Given as given
 use Rattle.taylor.proofs.arithmetic.Arithmetic.times.Goals as goal
@@ -11,17 +11,17 @@ use Rattle.taylor.proofs.arithmetic.Arithmetic.times.Goals.{In_ok-test}
 
 pub returns-in_err-tally : goal.returns-in_err-tally
 returns-in_err-tally g c =
-    let p = err_from_is_err_and {Q = λ e. e ≡ c.in_err-tally.field-0.0} c.from_residual.result c.from_residual.ensures.1 in
+    let p = passed_on c.from_residual.result c.from_residual.ensures.1 in
     let k = g.K.Kind.meaning c.args.self.now.kind.now in
     let m = g.M.Ranging.meaning c.args.self.now.method.now in
-    rw (p.1, p.2) (record { value = too_many k m c.args.self.now.order (worked_of c.args.worked.now) (unpacked c.args.by.now) c.in_err-tally.field-0.0 c.in_err-tally.ensures })
+    rw p (record { value = too_many k m c.args.self.now.order (worked_of c.args.worked.now) (unpacked c.args.by.now) c.in_err-tally.field-0.0 c.in_err-tally.ensures })
 
 pub returns-in_err-model : goal.returns-in_err-model
 returns-in_err-model g c =
-    let p = err_from_is_err_and {Q = λ e. e ≡ c.in_err-model.field-0.0} c.from_residual-in_err-model.result c.from_residual-in_err-model.ensures.1 in
+    let p = passed_on c.from_residual-in_err-model.result c.from_residual-in_err-model.ensures.1 in
     let k = g.K.Kind.meaning c.args.self.now.kind.now in
     let m = g.M.Ranging.meaning c.args.self.now.method.now in
-    rw (p.1, p.2)
+    rw p
     (record {
       value = unfit k m c.args.self.now.order (worked_of c.args.worked.now) (unpacked c.args.by.now) c.in_ok-tally.tally c.in_ok-tally.ensures
           c.in_err-model.field-0.0 c.in_err-model.ensures.value;
@@ -36,10 +36,10 @@ test-requires g c =
 
 pub returns-in_err-test : goal.returns-in_err-test
 returns-in_err-test g c =
-    let p = err_from_is_err_and {Q = λ e. e ≡ c.in_err-test.field-0.0} c.from_residual-in_err-test.result c.from_residual-in_err-test.ensures.1 in
+    let p = passed_on c.from_residual-in_err-test.result c.from_residual-in_err-test.ensures.1 in
     let k = g.K.Kind.meaning c.args.self.now.kind.now in
     let m = g.M.Ranging.meaning c.args.self.now.method.now in
-    rw (p.1, p.2)
+    rw p
     (record {
       value = untested k m c.args.self.now.order (worked_of c.args.worked.now) (unpacked c.args.by.now) c.in_ok-tally.tally c.in_ok-tally.ensures
           c.in_ok-model.model c.in_ok-model.ensures.value c.in_err-test.field-0.0 c.in_err-test.ensures.value;

@@ -1,7 +1,7 @@
 use Rattle.std.proofs.Common.{◌≡◌, sym}
-use Rattle.std.proofs.lemmas.Result.{err_from_is_err_and}
 use Rattle.table.proofs.Packing.{packs_long}
 use Rattle.taylor.specs.Model.{unpacked}
+use Rattle.taylor.proofs.Results.{passed_on}
 use Rattle.taylor.proofs.Operands.{places_room}
 use Rattle.taylor.proofs.Tallying.{tallied_kept}
 use Rattle.taylor.proofs.Multiplied.{tally_left, hulls_unfit, rest_unfit, completed_made}
@@ -14,8 +14,8 @@ returns-then-not-tally g c = record {
 
 pub returns-in_err-remainder : goal.returns-in_err-remainder
 returns-in_err-remainder g c =
-    let p = err_from_is_err_and {Q = λ e. e ≡ c.in_err-remainder.field-0.0} c.from_residual.result c.from_residual.ensures.1 in
-    rw (p.1, p.2)
+    let p = passed_on c.from_residual.result c.from_residual.ensures.1 in
+    rw p
     (record {
       value = rest_unfit (g.K.Kind.meaning c.args.self.now.by.now.kind.now) (g.M.Ranging.meaning c.args.self.now.by.now.method.now) c.args.tally.now (unpacked c.args.self.now.a.now) (unpacked c.args.self.now.b.now) c.if-not-tally.false
           c.in_err-remainder.field-0.0 c.in_err-remainder.ensures.value;

@@ -1,10 +1,10 @@
 -- Each way out by the pair at the place, and what is left of the row brings the tally to the same end.
 use Rattle.std.proofs.Common.{◌≡◌, true, sym, refl, ◌∙◌, arith}
 use Rattle.std.proofs.ByRecursion.{All-get_or}
-use Rattle.std.proofs.lemmas.Result.{err_from_is_err_and}
 use Rattle.polynomial.proofs.Coefficients.{unread}
 use Rattle.taylor.specs.Product.{row}
 use Rattle.taylor.specs.Gathering.{tally_of, Factor}
+use Rattle.taylor.proofs.Results.{passed_on}
 use Rattle.taylor.proofs.Tallying.{tallied_kept}
 use Rattle.taylor.proofs.Rows.{pair_ends, row_all, row_again, row-refused, took_all, took_none}
 use Rattle.taylor.proofs.tally.TallyRecord.take_row.Goals as goal
@@ -24,10 +24,10 @@ take-requires g c =
 pub returns-in_err-take : goal.returns-in_err-take
 returns-in_err-take g c =
     let k = g.K.Kind.meaning c.args.by.now.kind.now in
-    let p = err_from_is_err_and {Q = λ e. e ≡ c.in_err-take.field-0.0} c.from_residual.result c.from_residual.ensures.1 in
+    let p = passed_on c.from_residual.result c.from_residual.ensures.1 in
     let r = row-refused k c.args.by.now.order c.args.p c.args.qs.now c.loop-q.q-index c.loop-q-test.true c.pair.result c.pair.ensures.value
     (tally_of c.loop-q.self) _ c.in_err-take.field-0.0 c.in_err-take.ensures.took.value c.loop-q.invariant.1 in
-    rw (p.1, p.2) (record { took = took_none k c.args.by.now.order c.args.self.now c.take.new.self (row k.scale c.args.p c.args.qs.now) c.in_err-take.field-0.0 r })
+    rw p (record { took = took_none k c.args.by.now.order c.args.self.now c.take.new.self (row k.scale c.args.p c.args.qs.now) c.in_err-take.field-0.0 r })
 
 pub loop-q-preserved : goal.loop-q-preserved
 loop-q-preserved g c =
