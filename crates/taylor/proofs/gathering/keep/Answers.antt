@@ -7,11 +7,11 @@ use Rattle.taylor.proofs.Summing.{entered_some, unentered}
 use Rattle.taylor.proofs.Entering.{open_joins, open_remainder, kept_pair, refused_pair}
 use Rattle.taylor.proofs.gathering.keep.Goals as goal
 
-pub enter-requires : goal.enter-requires
-enter-requires g c =
+pub enter-requires-clause-joins : goal.enter-requires-clause-joins
+enter-requires-clause-joins g c =
     let M = c.args.model.now in
     let s = c.split.ensures.laws in
-    record { room = places_room c.requires.form.packs; joins = open_joins M c.requires.form c.split.result.0 s.coefficient }
+    open_joins M c.requires.form c.split.result.0 s.coefficient
 
 pub plus-model-requires : goal.plus-model-requires
 plus-model-requires g c =
@@ -19,23 +19,11 @@ plus-model-requires g c =
     let s = c.split.ensures.laws in
     open_remainder M c.requires.form twice_limit (lit≤ tt) c.args.pair.monomial c.split.result.1 c.reach.result s.leftover c.reach.ensures.value
 
-pub returns-in_err-count : goal.returns-in_err-count
-returns-in_err-count g c =
-    let p = passed_on c.from_residual.result c.from_residual.ensures.1 in
-    let h = c.in_err-count.ensures in
-    let M = c.args.model.now in
-    rw p (record {
-      value = refused_pair M c.requires.form (g.K.Kind.meaning c.args.kind.now) c.args.pair c.split.result c.split.ensures.value h.ok_part c.enter.ensures.value h.value;
-      after = tt;
-      packs = tt;
-      refused = ap (λ ts. record { count = M.count; terms = ts; remainder = M.remainder }) (unentered _ _ h.ok_part c.enter.ensures.after);
-    })
-
-pub returns : goal.returns
-returns g c =
+pub returns-clause-packs : goal.returns-clause-packs
+returns-clause-packs g c =
     let M = c.args.model.now in
     let room = c.in_ok-count.ensures.ok_part in
     let k = kept_pair M c.requires.form (g.K.Kind.meaning c.args.kind.now) c.args.pair c.split.result c.split.ensures.value
     (record { count = c.in_ok-count.count; terms = c.enter.new.terms; remainder = c.plus-model.result })
     c.reach.result (sym room ∙ c.enter.ensures.value) (entered_some _ _ room c.enter.ensures.after) c.reach.ensures.value c.plus-model.ensures.value in
-    record { value = k.value; after = k.after; packs = k.packs; refused = tt }
+    k.packs

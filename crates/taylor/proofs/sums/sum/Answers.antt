@@ -5,14 +5,8 @@ use Rattle.taylor.proofs.Operands.{places_room}
 use Rattle.taylor.proofs.Summing.{entered_some, entered_none, adding_start, adding_more, adding_full, adding_done, adding_room, joinable, sum-refused, sum_comes}
 use Rattle.taylor.proofs.sums.sum.Goals as goal
 
-pub used-t-items-requires : goal.used-t-items-requires
-used-t-items-requires c = places_room c.requires.second.canonical.packs
-
-pub loop-t-init : goal.loop-t-init
-loop-t-init c = adding_start c.args.a.now c.args.b.now c.requires.first c.requires.second c.used-t-items.ensures.value
-
-pub enter-requires : goal.enter-requires
-enter-requires c = record { room = adding_room c.loop-t.invariant; joins = joinable _ _ _ _ _ c.loop-t.invariant _ c.loop-t-test.true }
+pub enter-requires-clause-joins : goal.enter-requires-clause-joins
+enter-requires-clause-joins c = joinable _ _ _ _ _ c.loop-t.invariant _ c.loop-t-test.true
 
 pub returns-in_err-count : goal.returns-in_err-count
 returns-in_err-count c =
@@ -24,9 +18,6 @@ pub loop-t-preserved : goal.loop-t-preserved
 loop-t-preserved c =
     let room = c.in_ok-count.ensures.ok_part in
     adding_more _ _ _ _ _ c.loop-t.invariant _ c.loop-t-test.true _ _ (sym room ∙ c.enter.ensures.value) (entered_some _ _ room c.enter.ensures.after)
-
-pub drop_zeros-count-requires : goal.drop_zeros-count-requires
-drop_zeros-count-requires c = adding_room c.loop-t.invariant
 
 pub returns : goal.returns
 returns c = record { value = sum_comes (unpacked c.args.a.now) (unpacked c.args.b.now) _ _ (adding_done _ _ _ _ _ c.loop-t.invariant c.loop-t-test.false) _ _ _ c.drop_zeros-count.ensures.value c.drop_zeros-count.ensures.after c.plus.ensures.value }

@@ -7,9 +7,6 @@ use Rattle.taylor.proofs.testing.test.Goals.{then-not-all_fit-via-then-not-all_f
 use Rattle.taylor.proofs.testing.test.Goals.{then-not-fits-2-via-then-not-fits-2, then-not-fits-2-via-else-not-fits-2+then-not-fits-3}
 use Rattle.taylor.proofs.testing.test.Goals as goal
 
-pub used-requires : goal.used-requires
-used-requires g c = places_room c.requires.canonical.packs
-
 pub returns-then-not-all_fit : goal.returns-then-not-all_fit
 returns-then-not-all_fit g c =
     let r = c.args.model.now in
@@ -22,10 +19,10 @@ returns-then-not-all_fit g c =
       ];
     }
 
-pub polynomial_range-range-requires : goal.polynomial_range-range-requires
-polynomial_range-range-requires g c =
+pub polynomial_range-range-requires-clause-polynomial : goal.polynomial_range-range-requires-clause-polynomial
+polynomial_range-range-requires-clause-polynomial g c =
     let m = g.M.Ranging.meaning c.args.method.now in
-    record { room = places_room c.requires.canonical.packs; polynomial = fit_polynomial m c.args.model.now c.requires (ap all_fit (sym c.used.ensures.value) ∙ sym c.if-not-all_fit.ensures.value) }
+    fit_polynomial m c.args.model.now c.requires (ap all_fit (sym c.used.ensures.value) ∙ sym c.if-not-all_fit.ensures.value)
 
 pub plus-requires : goal.plus-requires
 plus-requires g c =

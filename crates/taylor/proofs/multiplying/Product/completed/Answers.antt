@@ -24,9 +24,6 @@ returns-in_err-remainder g c =
 pub joint_remainder-requires : goal.joint_remainder-requires
 joint_remainder-requires g c = tally_left c.args.tally.now
 
-pub slice_bounds-drop_zeros-end : goal.slice_bounds-drop_zeros-end
-slice_bounds-drop_zeros-end g c = sym (packs_long 40 _ _ _ _ (tallied_kept c.args.tally.now.form).packs)
-
 pub drop_zeros-count-requires : goal.drop_zeros-count-requires
 drop_zeros-count-requires g c = places_room (tallied_kept c.args.tally.now.form).packs
 

@@ -12,21 +12,6 @@ use Rattle.taylor.proofs.Rows.{rows_few, rows_all, rows_again, rows_refused}
 use Rattle.taylor.proofs.Multiplied.{pairs-few, counted_none, counted_all}
 use Rattle.taylor.proofs.multiplying.Product.gathered.Goals as goal
 
-pub used-p-items-requires : goal.used-p-items-requires
-used-p-items-requires g c = ready_room (kept c.args.self.now.first)
-
-pub loop-p-init : goal.loop-p-init
-loop-p-init g c =
-    let p = c.args.self.now in
-    let k = g.K.Kind.meaning p.by.now.kind.now in
-    let start = c.new-tally.ensures.value in (
-      ap (λ y. y.pairs) start ∙ omega arith,
-      ap₂ (λ y us. tally k p.by.now.order y (pairs k.scale us (unpacked p.b.now).terms)) start c.used-p-items.ensures.value,
-    )
-
-pub used-requires : goal.used-requires
-used-requires g c = ready_room (kept c.args.self.now.second)
-
 pub take_row-requires : goal.take_row-requires
 take_row-requires g c =
     let p = c.args.self.now in

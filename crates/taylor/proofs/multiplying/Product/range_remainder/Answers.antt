@@ -1,8 +1,8 @@
 use Rattle.taylor.proofs.Operands.{kept, ready_room, ready_polynomial, ranges_times}
 use Rattle.taylor.proofs.multiplying.Product.range_remainder.Goals as goal
 
-pub polynomial_range-range-requires : goal.polynomial_range-range-requires
-polynomial_range-range-requires g c = let a = kept c.args.self.now.first in record { room = ready_room a; polynomial = ready_polynomial a }
+pub polynomial_range-range-requires-clause-polynomial : goal.polynomial_range-range-requires-clause-polynomial
+polynomial_range-range-requires-clause-polynomial g c = ready_polynomial (kept c.args.self.now.first)
 
 pub times-requires : goal.times-requires
 times-requires g c =

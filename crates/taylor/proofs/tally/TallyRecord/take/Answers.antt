@@ -8,11 +8,11 @@ use Rattle.taylor.proofs.tally.TallyRecord.take.Goals.{After-hold-pair}
 holds : (g : given.Over) (c : After-hold-pair g) → Holds c.args.self.now c.args.pair c.hold-pair.result c.hold-pair.new.fit
 holds g c = record { ends = c.requires.ends; is = c.hold-pair.ensures.value; fit = c.hold-pair.ensures.after }
 
-pub keep-requires : goal.keep-requires
-keep-requires g c = record { form = tallied_open (tallied_kept c.args.self.now.form); fit = hold_fits (holds g (goal.at.keep-requires g c).After-hold-pair) }
+pub keep-requires-clause-form : goal.keep-requires-clause-form
+keep-requires-clause-form g c = tallied_open (tallied_kept c.args.self.now.form)
 
-pub cut-requires : goal.cut-requires
-cut-requires g c = record { form = tallied_open (tallied_kept c.args.self.now.form); fit = hold_fits (holds g (goal.at.cut-requires g c).After-hold-pair) }
+pub cut-requires-clause-form : goal.cut-requires-clause-form
+cut-requires-clause-form g c = tallied_open (tallied_kept c.args.self.now.form)
 
 pub invariant_of-self : goal.invariant_of-self
 invariant_of-self g c =
@@ -26,14 +26,3 @@ invariant_of-self-2 g c =
     let T = tallied_kept c.args.self.now.form in
     let f = hold_fits (holds g (goal.at.invariant_of-self-2 g c).After-hold-pair) in
     record { form = ∣ tallied_cut T c.requires.few (g.K.Kind.meaning c.args.by.now.kind.now) c.hold-pair.result f c.cut.new.model c.cut.ensures.after ∣₁ }
-
-pub returns-then-degree-by : goal.returns-then-degree-by
-returns-then-degree-by g c =
-    let w = holds g (goal.at.returns-then-degree-by g c).After-hold-pair in
-    let e = c.keep.ensures in
-    record { took = took_kept (g.K.Kind.meaning c.args.by.now.kind.now) c.args.by.now.order w c.keep.result _ (omega arith) e.value e.after refl refl refl }
-
-pub returns : goal.returns
-returns g c =
-    let w = holds g (goal.at.returns g c).After-hold-pair in
-    record { took = took_cut (g.K.Kind.meaning c.args.by.now.kind.now) c.args.by.now.order w _ (omega arith) c.cut.ensures.after refl refl refl }

@@ -9,17 +9,10 @@ use Rattle.taylor.proofs.Tallying.{tallied_kept}
 use Rattle.taylor.proofs.Rows.{pair_ends, row_all, row_again, row-refused, took_all, took_none}
 use Rattle.taylor.proofs.tally.TallyRecord.take_row.Goals as goal
 
-pub pair-requires : goal.pair-requires
-pair-requires g c = (c.requires.factors.0, All-get_or Factor c.args.qs.now c.loop-q.q-index unread c.loop-q-test.true c.requires.factors.1)
-
-pub take-requires : goal.take-requires
-take-requires g c =
+pub take-requires-clause-ends : goal.take-requires-clause-ends
+take-requires-clause-ends g c =
     let k = g.K.Kind.meaning c.args.by.now.kind.now in
-    let inv = c.loop-q.invariant in
-    record {
-      few = omega (arith, inv.0);
-      ends = pair_ends k c.args.by.now.order c.args.p c.args.qs.now c.loop-q.q-index c.loop-q-test.true c.pair.result c.pair.ensures.value;
-    }
+    pair_ends k c.args.by.now.order c.args.p c.args.qs.now c.loop-q.q-index c.loop-q-test.true c.pair.result c.pair.ensures.value
 
 pub returns-in_err-take : goal.returns-in_err-take
 returns-in_err-take g c =
@@ -28,15 +21,6 @@ returns-in_err-take g c =
     let r = row-refused k c.args.by.now.order c.args.p c.args.qs.now c.loop-q.q-index c.loop-q-test.true c.pair.result c.pair.ensures.value
     (tally_of c.loop-q.self) _ c.in_err-take.field-0.0 c.in_err-take.ensures.took.value c.loop-q.invariant.1 in
     rw p (record { took = took_none k c.args.by.now.order c.args.self.now c.take.new.self (row k.scale c.args.p c.args.qs.now) c.in_err-take.field-0.0 r })
-
-pub loop-q-preserved : goal.loop-q-preserved
-loop-q-preserved g c =
-    let k = g.K.Kind.meaning c.args.by.now.kind.now in
-    let e = c.in_ok-take.ensures.took in
-    let inv = c.loop-q.invariant in
-    let more = row_again k c.args.by.now.order c.args.p c.args.qs.now c.loop-q.q-index c.loop-q-test.true c.pair.result c.pair.ensures.value
-    c.args.self.now.pairs (tally_of c.loop-q.self) (tally_of c.take.new.self) _ e.after inv.0 inv.1 in
-    (more.0, more.1)
 
 pub returns : goal.returns
 returns g c =
