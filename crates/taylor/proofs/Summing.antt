@@ -3,7 +3,7 @@ use Rattle.std.proofs.Common.{◌≡◌, ℕ, ◌+◌, ◌-◌, ◌*◌, ◌^◌
 use Rattle.std.specs.Option.{ok_or}
 use Rattle.std.specs.List.{AllByRecursion}
 use Rattle.std.proofs.ByRecursion.{All-weaker, All-get_or}
-use Rattle.std.proofs.lemmas.List.{at_drop_more, at_drop_all, drop_at, take_all, drop_all, append-nil, get_or_default, get_or-append_right, get_or-drop, get_or-take, length-map, length-take-le}
+use Rattle.std.proofs.lemmas.List.{at_drop_more, at_drop_all, drop_at, take_all, drop_all, append-nil, get_or_default, get_or-append_right, get_or-drop, length-map, length-take-le}
 use Rattle.std.proofs.lemmas.List.Edits.{map_over_more}
 use Rattle.std.proofs.lemmas.Bool.{leb-true, leb-false, lt-leb, le-leb}
 use Rattle.interval.specs.declared.marks.Interval.{Interval}

@@ -1,10 +1,8 @@
 -- There is room for one term more, or the refusal; its leftover's reach can be added.
-use Rattle.std.proofs.Common.{lit≤, sym, ap, ◌∙◌}
+use Rattle.std.proofs.Common.{lit≤, sym, ◌∙◌}
 use Rattle.interval.specs.Kind.{twice_limit}
-use Rattle.taylor.proofs.Results.{passed_on}
-use Rattle.taylor.proofs.Operands.{places_room}
-use Rattle.taylor.proofs.Summing.{entered_some, unentered}
-use Rattle.taylor.proofs.Entering.{open_joins, open_remainder, kept_pair, refused_pair}
+use Rattle.taylor.proofs.Summing.{entered_some}
+use Rattle.taylor.proofs.Entering.{open_joins, open_remainder, kept_pair}
 use Rattle.taylor.proofs.gathering.keep.Goals as goal
 
 pub enter-requires-clause-joins : goal.enter-requires-clause-joins

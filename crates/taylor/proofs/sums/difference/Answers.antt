@@ -1,9 +1,6 @@
-use Rattle.std.proofs.Common.{sym, ap, ◌∙◌, subst}
+use Rattle.std.proofs.Common.{sym, subst}
 use Rattle.interval.specs.Interval.{limit}
-use Rattle.taylor.specs.Model.{unpacked}
-use Rattle.taylor.specs.Arithmetic.{sum, negated_model}
-use Rattle.taylor.specs.Record.{Held, recorded}
-use Rattle.taylor.proofs.Keeps.{packing}
+use Rattle.taylor.specs.Record.{Held}
 use Rattle.taylor.proofs.Summing.{negated-held}
 use Rattle.taylor.proofs.sums.difference.Goals as goal
 

@@ -1,4 +1,4 @@
-use Rattle.taylor.proofs.Summing.{turnable, turned_more, turned_all, negated_record}
+use Rattle.taylor.proofs.Summing.{turned_more}
 use Rattle.taylor.proofs.sums.negated.Goals as goal
 
 pub loop-t-preserved : goal.loop-t-preserved

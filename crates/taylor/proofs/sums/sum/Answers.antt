@@ -1,8 +1,7 @@
 use Rattle.std.proofs.Common.{sym, ◌∙◌}
 use Rattle.taylor.specs.Model.{unpacked}
 use Rattle.taylor.proofs.Results.{passed_on}
-use Rattle.taylor.proofs.Operands.{places_room}
-use Rattle.taylor.proofs.Summing.{entered_some, entered_none, adding_start, adding_more, adding_full, adding_done, adding_room, joinable, sum-refused, sum_comes}
+use Rattle.taylor.proofs.Summing.{entered_some, entered_none, adding_more, adding_full, adding_done, joinable, sum-refused, sum_comes}
 use Rattle.taylor.proofs.sums.sum.Goals as goal
 
 pub enter-requires-clause-joins : goal.enter-requires-clause-joins

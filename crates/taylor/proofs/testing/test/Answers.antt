@@ -1,7 +1,6 @@
 use Rattle.std.proofs.Common.{sym, ap, ◌∙◌}
 use Rattle.interval.specs.Interval.{fits, plus}
 use Rattle.taylor.specs.Model.{all_fit}
-use Rattle.taylor.proofs.Operands.{places_room}
 use Rattle.taylor.proofs.Questions.{unfit_coefficients, unfit_remainder, unfit_range, unfit_whole, fit-whole, fit_polynomial, range_adds}
 use Rattle.taylor.proofs.testing.test.Goals.{then-not-all_fit-via-then-not-all_fit, then-not-all_fit-via-else-not-all_fit+then-not-fits}
 use Rattle.taylor.proofs.testing.test.Goals.{then-not-fits-2-via-then-not-fits-2, then-not-fits-2-via-else-not-fits-2+then-not-fits-3}

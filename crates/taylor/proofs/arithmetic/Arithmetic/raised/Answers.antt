@@ -1,5 +1,5 @@
 -- What is left of the products brings what was worked so far to the same end.
-use Rattle.std.proofs.Common.{◌≡◌, true, arith}
+use Rattle.std.proofs.Common.{true, arith}
 use Rattle.taylor.specs.Model.{unpacked}
 use Rattle.taylor.specs.Product.{worked}
 use Rattle.taylor.proofs.Results.{passed_on}

@@ -1,4 +1,4 @@
-use Rattle.taylor.proofs.Ranges.{held_room, held_polynomial, held_summable}
+use Rattle.taylor.proofs.Ranges.{held_summable}
 use Rattle.taylor.proofs.model.ModelRecord.range.Goals as goal
 
 pub plus-requires : goal.plus-requires

@@ -1,5 +1,3 @@
-use Rattle.std.proofs.Common.{◌≡◌, sym}
-use Rattle.table.proofs.Packing.{packs_long}
 use Rattle.taylor.specs.Model.{unpacked}
 use Rattle.taylor.proofs.Results.{passed_on}
 use Rattle.taylor.proofs.Operands.{places_room}

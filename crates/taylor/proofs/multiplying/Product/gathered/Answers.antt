@@ -1,13 +1,13 @@
 -- Each way out by the row at the place.
-use Rattle.std.proofs.Common.{◌≡◌, sym, ap, ◌∙◌, ap₂, subst, get_or, arith}
+use Rattle.std.proofs.Common.{sym, ap, ◌∙◌, subst, get_or}
 use Rattle.std.specs.List.{AllByRecursion}
 use Rattle.std.proofs.ByRecursion.{All-get_or}
 use Rattle.polynomial.proofs.Coefficients.{unread}
 use Rattle.taylor.specs.Model.{unpacked}
-use Rattle.taylor.specs.Product.{pairs, row}
+use Rattle.taylor.specs.Product.{row}
 use Rattle.taylor.specs.Gathering.{tally, roomy, tally_of, Factor}
 use Rattle.taylor.proofs.Results.{passed_on}
-use Rattle.taylor.proofs.Operands.{kept, ready_room, ready_factors}
+use Rattle.taylor.proofs.Operands.{kept, ready_factors}
 use Rattle.taylor.proofs.Rows.{rows_few, rows_all, rows_again, rows_refused}
 use Rattle.taylor.proofs.Multiplied.{pairs-few, counted_none, counted_all}
 use Rattle.taylor.proofs.multiplying.Product.gathered.Goals as goal

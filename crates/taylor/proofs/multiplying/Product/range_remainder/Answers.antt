@@ -1,4 +1,4 @@
-use Rattle.taylor.proofs.Operands.{kept, ready_room, ready_polynomial, ranges_times}
+use Rattle.taylor.proofs.Operands.{kept, ready_polynomial, ranges_times}
 use Rattle.taylor.proofs.multiplying.Product.range_remainder.Goals as goal
 
 pub polynomial_range-range-requires-clause-polynomial : goal.polynomial_range-range-requires-clause-polynomial

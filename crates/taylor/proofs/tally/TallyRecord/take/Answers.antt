@@ -1,6 +1,6 @@
 -- Kept or cut: the pair, held, leaves the tally of specs/ and its bounds.
-use Rattle.std.proofs.Common.{arith, rules, refl}
-use Rattle.taylor.proofs.Tallying.{Holds, hold_fits, tallied_kept, tallied_open, tallied_keep, tallied_cut, took_kept, took_cut}
+use Rattle.std.proofs.Common.{arith, rules}
+use Rattle.taylor.proofs.Tallying.{Holds, hold_fits, tallied_kept, tallied_open, tallied_keep, tallied_cut}
 use Rattle.taylor.proofs.tally.TallyRecord.take.Given as given
 use Rattle.taylor.proofs.tally.TallyRecord.take.Goals as goal
 use Rattle.taylor.proofs.tally.TallyRecord.take.Goals.{After-hold-pair}

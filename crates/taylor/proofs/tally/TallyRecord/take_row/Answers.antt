@@ -1,12 +1,10 @@
 -- Each way out by the pair at the place, and what is left of the row brings the tally to the same end.
-use Rattle.std.proofs.Common.{◌≡◌, true, sym, refl, ◌∙◌, arith}
-use Rattle.std.proofs.ByRecursion.{All-get_or}
-use Rattle.polynomial.proofs.Coefficients.{unread}
+use Rattle.std.proofs.Common.{sym, ◌∙◌}
 use Rattle.taylor.specs.Product.{row}
-use Rattle.taylor.specs.Gathering.{tally_of, Factor}
+use Rattle.taylor.specs.Gathering.{tally_of}
 use Rattle.taylor.proofs.Results.{passed_on}
 use Rattle.taylor.proofs.Tallying.{tallied_kept}
-use Rattle.taylor.proofs.Rows.{pair_ends, row_all, row_again, row-refused, took_all, took_none}
+use Rattle.taylor.proofs.Rows.{pair_ends, row_all, row-refused, took_all, took_none}
 use Rattle.taylor.proofs.tally.TallyRecord.take_row.Goals as goal
 
 pub take-requires-clause-ends : goal.take-requires-clause-ends
