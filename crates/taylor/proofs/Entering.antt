@@ -1,12 +1,9 @@
 -- What one pair leaves in the record of the model that is gathered. Assumes nothing.
-use Rattle.std.proofs.Common.{◌≡◌, ℕ, ◌-◌, ◌^◌, ◌≤◌, leb, List, length, take, Some, None, Ok, Err, Option, sym, refl, ap, ◌∙◌, subst, ap₂, lit≤}
-use Rattle.std.specs.Option.{ok_or}
+use Rattle.std.proofs.Common.{◌≡◌, ℕ, ◌-◌, ◌^◌, ◌≤◌, leb, List, length, take, Some, Ok, sym, ap, ◌∙◌, subst, ap₂, lit≤}
 use Rattle.std.specs.List.{AllByRecursion}
 use Rattle.std.proofs.ByRecursion.{All-weaker}
-use Rattle.std.proofs.lemmas.Bool.{le-leb, lt-leb}
+use Rattle.std.proofs.lemmas.Bool.{le-leb}
 use Rattle.interval.specs.declared.marks.Interval.{Interval}
-use Rattle.interval.specs.declared.reason.Reason.{Reason}
-use Rattle.interval.specs.declared.reason.Reason.TheVariants.{TooManyMonomials}
 use Rattle.interval.specs.Interval.{Sized, Fits, Summable, plus}
 use Rattle.interval.specs.Kind.{KindMeaning}
 use Rattle.interval.proofs.Sizes.{sized_weaken}
@@ -24,7 +21,7 @@ use Rattle.taylor.specs.Gathering.{roomy, Open}
 use Rattle.taylor.proofs.Results.{require_yes}
 use Rattle.taylor.proofs.Sizes.{sized-reach}
 use Rattle.taylor.proofs.Packed.{Places}
-use Rattle.taylor.proofs.Summing.{entered_none, term-entered, term_too_many}
+use Rattle.taylor.proofs.Summing.{term-entered}
 
 -- the terms of a packed record
 pub packed_here : (N : ModelRecord) (ts : List Term) → Places N.terms N.count ts → InPlaces N
@@ -57,9 +54,3 @@ module _ (M : ModelRecord) (o : Open M) where
           after = rw (← is) (ap₂ model (packs_front 40 zero_term N.terms N.count table p) (adds ∙ ap (plus M.remainder) reaches));
           packs = packed_here N table p;
         }
-
-    -- there was no room for it
-    pub refused_pair : {o : Option ℕ} {e : Reason} → o ≡ None → o ≡ new_count (length M.terms) table → Err e ≡ ok_or o TooManyMonomials → Err e ≡ roomy (keep k (unpacked M) t)
-    refused_pair n v h =
-        let many = term_too_many M.terms M.count (unpacked M).terms o.packs (term t.monomial parts.0) (sym n ∙ v) in
-        rw (entered_none n h, ← is, lt-leb (length table) 40 many) refl

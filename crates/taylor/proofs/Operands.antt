@@ -58,9 +58,6 @@ pub ranges_times : (m : MethodMeaning) {a b : ModelRecord} → Ready m a → Rea
 ranges_times m f g e = (rw e f.tested.range, g.tested.sized.remainder)
 
 module _ {m : MethodMeaning} {r : ModelRecord} (h : Ready m r) where
-  pub ready_room : r.count ≤ length r.terms
-  ready_room = places_room h.canonical.packs
-
   pub ready_polynomial : Polynomial (unpacked r).terms
   ready_polynomial = tested_polynomial m (unpacked r) h.tested
 

@@ -20,7 +20,7 @@ use Rattle.taylor.proofs.Made.{test_made}
 use Rattle.taylor.proofs.Sizes.{one-fits}
 use Rattle.taylor.proofs.Drafts.{length_pairs}
 use Rattle.taylor.proofs.Forms.{constant_formed}
-use Rattle.taylor.proofs.Tests.{times-kept, power-kept}
+use Rattle.taylor.proofs.Tests.{times-kept}
 use Rattle.taylor.proofs.Keeps.{packing}
 use Rattle.taylor.proofs.Multiplied.{and_then_err, formed_held}
 
@@ -117,10 +117,3 @@ module _ (k : KindMeaning) (m : MethodMeaning) (order : ℕ) (M : Model) where
   power_more zero l x h = absurd (omega arith)
   power_more (suc zero) l x h = absurd (omega arith)
   power_more (suc (suc n)) l x h = let e : suc (suc n) - 1 ≡ suc n = omega arith in h ∙ ap (λ j. recorded_worked (raised k m order j (worked M 0 true) M)) e
-
--- its record is an operand again
-pub power_ready : (k : KindMeaning) (m : MethodMeaning) (order n : ℕ) (r : ModelRecord) (W : WorkedRecord) → order ≤ greatest_order → Ready m r → Ok W ≡ recorded_worked (power k m order n (unpacked r)) → Ready m W.model
-power_ready k m order n r W low h e =
-    let c = and_then_ok (power k m order n (unpacked r)) (λ v. Ok (packed_worked v)) (sym e) in
-    let t = power-kept k m order greatest_order n (unpacked r) c.0 low h.tested h.canonical.degrees c.1 in
-    tested_ready m greatest_order c.0.model W.model (lit≤ tt) t.0 t.1 (ap (λ (R : WorkedRecord). R.model) (sym (same-value c.2)))

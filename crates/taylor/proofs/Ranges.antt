@@ -1,5 +1,5 @@
 -- The range of a model's polynomial can be asked for, and added to the remainder. Assumes nothing.
-use Rattle.std.proofs.Common.{◌≡◌, ℕ, ◌+◌, ◌*◌, ◌≤◌, List, [], ◌∷◌, length, suc-mul, arith}
+use Rattle.std.proofs.Common.{◌≡◌, ℕ, ◌+◌, ◌*◌, List, [], ◌∷◌, length, suc-mul, arith}
 use Rattle.std.specs.List.{AllByRecursion}
 use Rattle.std.proofs.ByRecursion.{All-weaker}
 use Rattle.std.proofs.lemmas.Int.{ints}
@@ -14,7 +14,6 @@ use Rattle.taylor.specs.Model.{unpacked}
 use Rattle.taylor.specs.Record.{Held}
 use Rattle.taylor.proofs.Bounds.{range-order}
 use Rattle.taylor.proofs.Tests.{normal_polynomial}
-use Rattle.taylor.proofs.Operands.{places_room}
 
 -- the plain range has at most so many marks for each term
 plain-sized : (n : ℕ) (ts : List Term) → AllByRecursion (λ t. Sized n t.coefficient) ts → Sized (length ts * n) (plain ts)
@@ -33,9 +32,6 @@ range-summable m ts P =
     record { low = omega (arith, ints); order = order; high = omega (arith, ints) }
 
 module _ {r : ModelRecord} (h : Held limit r) where
-  pub held_room : r.count ≤ length r.terms
-  held_room = places_room h.canonical.packs
-
   pub held_polynomial : (m : MethodMeaning) → Polynomial (unpacked r).terms
   held_polynomial m = normal_polynomial m (unpacked r) h.canonical.normal h.sized.coefficients
 

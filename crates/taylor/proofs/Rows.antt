@@ -78,10 +78,6 @@ module _ (k : KindMeaning) (order : ℕ) where
       pub row-refused : (y G : Tally) (e : Reason) → Err e ≡ roomy (tallied k order y t).model → tally k order y (row S p (drop i qs)) ≡ G → Err e ≡ roomy G.model
       row-refused y G e r q = refused_early (tallied k order y t) G (row S p (drop (i + 1) qs)) e r (row_more y ∙ q)
 
-      pub row_again : (n : ℕ) (y z G : Tally) → z ≡ tallied k order y t → y.pairs ≡ n + i → tally k order y (row S p (drop i qs)) ≡ G
-          → (z.pairs ≡ n + (i + 1)) × (tally k order z (row S p (drop (i + 1) qs)) ≡ G)
-      row_again n y z G e c q = (ap (λ u. u.pairs) e ∙ omega arith, ap (λ u. tally k order u (row S p (drop (i + 1) qs))) e ∙ row_more y ∙ q)
-
   -- ---- all rows: that of the term at place i
   module _ (ps qs : List Term) (i : ℕ) where
     pub rows_all : length ps ≤ i → (y : Tally) → tally k order y (pairs S (drop i ps) qs) ≡ y

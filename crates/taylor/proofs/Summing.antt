@@ -1,15 +1,15 @@
 -- Terms enter the places of a record one after the other: what then stands there, and when there is no room. Assumes nothing.
-use Rattle.std.proofs.Common.{◌≡◌, ℕ, ◌+◌, ◌-◌, ◌*◌, ◌^◌, ◌<◌, ◌≤◌, Bool, true, false, cond, leb, List, [], ◌∷◌, ◌++◌, map, length, get_or, take, drop, set, replicate, Some, None, is_some, Ok, Err, Option, Result, if◌then◌else◌, sym, refl, ap, ◌∙◌, subst, ap₂, arith}
+use Rattle.std.proofs.Common.{◌≡◌, ℕ, ◌+◌, ◌-◌, ◌*◌, ◌^◌, ◌<◌, ◌≤◌, Bool, true, false, cond, leb, List, [], ◌∷◌, ◌++◌, map, length, get_or, take, drop, set, Some, None, is_some, Ok, Err, Option, Result, if◌then◌else◌, sym, refl, ap, ◌∙◌, subst, arith}
 use Rattle.std.specs.Option.{ok_or}
 use Rattle.std.specs.List.{AllByRecursion}
 use Rattle.std.proofs.ByRecursion.{All-weaker, All-get_or}
-use Rattle.std.proofs.lemmas.List.{at_drop_more, at_drop_all, drop_at, take_all, drop_all, append-nil, get_or_default, get_or-append_right, get_or-drop, length-map, length-take-le}
+use Rattle.std.proofs.lemmas.List.{at_drop_more, at_drop_all, get_or_default}
 use Rattle.std.proofs.lemmas.List.Edits.{map_over_more}
 use Rattle.std.proofs.lemmas.Bool.{leb-true, leb-false, lt-leb, le-leb}
 use Rattle.interval.specs.declared.marks.Interval.{Interval}
 use Rattle.interval.specs.declared.reason.Reason.{Reason}
 use Rattle.interval.specs.declared.reason.Reason.TheVariants.{TooManyMonomials}
-use Rattle.interval.specs.Interval.{limit, Sized, Summable, plus, negated}
+use Rattle.interval.specs.Interval.{limit, Sized, Summable, plus}
 use Rattle.interval.proofs.Sizes.{sized_weaken}
 use Rattle.table.specs.Order.{by_degree}
 use Rattle.table.specs.Slice.{over}
@@ -25,7 +25,7 @@ use Rattle.taylor.specs.Form.{Formed, Draft, DraftTerm}
 use Rattle.taylor.specs.Arithmetic.{opposite, negated_model, sum}
 use Rattle.taylor.specs.Record.{Held, recorded}
 use Rattle.taylor.proofs.Drafts.{draft_more, draft-joins}
-use Rattle.taylor.proofs.Forms.{negated_formed, formed_draft}
+use Rattle.taylor.proofs.Forms.{negated_formed}
 use Rattle.taylor.proofs.Keeps.{packing}
 use Rattle.taylor.proofs.Packed.{Places, record_of, swept}
 
@@ -45,10 +45,6 @@ uncounted many false e = refl
 -- the answer o to entering, where it is a number
 pub entered_some : {o : Option ℕ} {n : ℕ} {after : List Term} (full terms : List Term) → o ≡ Some n → after ≡ (if is_some o then full else terms) → after ≡ full
 entered_some full terms e is = is ∙ ap (λ q. if is_some q then full else terms) e
-
--- and where it is none: nothing was written, and the reason is the one given
-pub unentered : {o : Option ℕ} {after : List Term} (full terms : List Term) → o ≡ None → after ≡ (if is_some o then full else terms) → after ≡ terms
-unentered full terms e is = is ∙ ap (λ q. if is_some q then full else terms) e
 
 pub entered_none : {o : Option ℕ} {e d : Reason} → o ≡ None → Err e ≡ ok_or o d → e ≡ d
 entered_none {e = e} {d = d} n h = let q : ◌≡◌ {A = Result ℕ Reason} (Err e) (Err d) = h ∙ ap (λ p. ok_or p d) n in cc
@@ -79,9 +75,6 @@ pub record Adding (more total : List Term) (i : ℕ) (terms : List Term) (count 
   pub draft : Draft 8 (limit + i * limit) (take count terms)
   pub few : length more ≤ 40
   pub each : AllByRecursion (DraftTerm 8 limit) more
-
-pub adding_room : {more total : List Term} {i : ℕ} {terms : List Term} {count : ℕ} → Adding more total i terms count → count ≤ length terms
-adding_room A = omega (arith, A.places.size, A.places.fits, A.long)
 
 summable : {n : ℕ} {i : Interval} → n ≤ 2 ^ 62 - 1 → Sized n i → Summable i
 summable h s = sized_weaken h s
@@ -142,50 +135,12 @@ module _ (M N : Model) where
 operand : (r : ModelRecord) → Held limit r → Formed 8 limit (unpacked r)
 operand r h = record { normal = h.canonical.normal; degrees = h.canonical.degrees; sized = h.sized }
 
-pub adding_start : (a b : ModelRecord) {more : List Term} → Held limit a → Held limit b → more ≡ (unpacked b).terms → Adding more (joins (unpacked a).terms (unpacked b).terms) 0 a.terms a.count
-adding_start a b {more} A B is = record {
-  long = packs_long 40 _ a.terms a.count _ A.canonical.packs;
-  places = A.canonical.packs;
-  rest = ap (joins (unpacked a).terms) is;
-  draft = formed_draft (operand a A);
-  few = omega (arith, ap length is, B.canonical.normal.few);
-  each = rw is (formed_draft (operand b B)).each;
-}
-
 -- ---- the other sign, term by term in place
-module _ (r : ModelRecord) (h : Held limit r) where
-  abbrev ts : List Term
-  ts = (unpacked r).terms
+pub turned_more : (ts us : List Term) (i : ℕ) (d : Term) {t : Term} → length us ≡ length ts → i < length ts → us ≡ map opposite (take i ts) ++ drop i ts → t ≡ opposite (get_or us i d)
+    → set us i t ≡ map opposite (take (i + 1) ts) ++ drop (i + 1) ts
+turned_more ts us i d long less is e = ap (set us i) e ∙ map_over_more opposite ts us i (get_or us i d) less is (get_or_default us i d (get_or us i d) (omega (arith, long)))
 
-  module _ (us : List Term) (i : ℕ) (is : us ≡ map opposite (take i ts) ++ drop i ts) where
-    -- past what is turned, the terms are as they were
-    unturned : (d : Term) → i < length ts → get_or us i d ≡ get_or ts i d
-    unturned d less =
-        let size : length (map opposite (take i ts)) ≡ i = length-map (take i ts) opposite ∙ length-take-le i ts (omega arith) in
-        ap (λ vs. get_or vs i d) is ∙ get_or-append_right (map opposite (take i ts)) (drop i ts) i i d size (omega arith)
-        ∙ get_or-drop i ts (i - i) d ∙ ap (λ n. get_or ts n d) (omega arith)
-
-    pub turnable : (d : Term) → i < length ts → Summable (get_or us i d).coefficient
-    turnable d less =
-        subst (λ (u : Term). Summable u.coefficient) (sym (unturned d less)) (summable (omega arith) (All-get_or (λ u. Sized limit u.coefficient) ts i d less h.sized.coefficients))
-
-    pub turned_more : (d : Term) {t : Term} → length us ≡ length ts → i < length ts → t ≡ opposite (get_or us i d) → set us i t ≡ map opposite (take (i + 1) ts) ++ drop (i + 1) ts
-    turned_more d long less e = ap (set us i) e ∙ map_over_more opposite ts us i (get_or us i d) less is (get_or_default us i d (get_or us i d) (omega (arith, long)))
-
-    pub turned_all : length ts ≤ i → us ≡ map opposite ts
-    turned_all end = is ∙ ap₂ (λ vs ws. map opposite vs ++ ws) (take_all i ts end) (drop_all i ts end) ∙ append-nil (map opposite ts)
-
-  pub negated_record : {us : List Term} {j : Interval} → us ≡ map opposite ts → j ≡ negated r.remainder
-      → ◌≡◌ {A = ModelRecord} (record { count = r.count; terms = us ++ drop r.count r.terms; remainder = j }) (packed (negated_model (unpacked r)))
-  negated_record {us} {j} is e =
-      let p = h.canonical.packs in
-      let size : r.count ≡ length (map opposite ts) = p.size ∙ sym (length-map ts opposite) in
-      let rest : drop r.count r.terms ≡ replicate (40 - length (map opposite ts)) zero_term =
-      ap (drop r.count) p.whole ∙ drop_at ts (replicate (40 - length ts) zero_term) r.count (sym p.size) ∙ ap (λ n. replicate (40 - n) zero_term) (sym (length-map ts opposite)) in
-      record_of (us ++ drop r.count r.terms) r.count (map opposite ts) j (record { whole = ap₂ (λ vs ws. vs ++ ws) is rest; size = size; fits = omega (arith, size, p.fits, p.size) })
-      ∙ ap (λ i. packed (model (map opposite ts) i)) e
-
-  pub negated-held : Held limit (packed (negated_model (unpacked r)))
-  negated-held =
-      let F = negated_formed 8 limit (unpacked r) (operand r h) in
-      record { canonical = packing.canonical limit (negated_model (unpacked r)) F; sized = rw (packing.back (negated_model (unpacked r))) F.sized }
+pub negated-held : (r : ModelRecord) → Held limit r → Held limit (packed (negated_model (unpacked r)))
+negated-held r h =
+    let F = negated_formed 8 limit (unpacked r) (operand r h) in
+    record { canonical = packing.canonical limit (negated_model (unpacked r)) F; sized = rw (packing.back (negated_model (unpacked r))) F.sized }

@@ -2,4 +2,4 @@ use Rattle.taylor.proofs.Summing.{turned_more}
 use Rattle.taylor.proofs.sums.negated.Goals as goal
 
 pub loop-t-preserved : goal.loop-t-preserved
-loop-t-preserved c = turned_more c.args.a.now c.requires c.loop-t.t-items c.loop-t.t-index c.loop-t.invariant _ c.loop-t.auto.t-items c.loop-t-test.true c.opposite.ensures.value
+loop-t-preserved c = turned_more _ c.loop-t.t-items c.loop-t.t-index _ c.loop-t.auto.t-items c.loop-t-test.true c.loop-t.invariant c.opposite.ensures.value
