@@ -71,6 +71,7 @@ impl<'a, K: Kind, M: Ranging> Product<'a, K, M> {
     }
 
     // Drops [0, 0] from the gathered terms and adds the remainders up, if every hull fits.
+    #[tactic(auto, unfolding(crate::specs::Gathering::completed))]
     fn completed(&self, tally: &TallyRecord) -> Result<ModelRecord, Reason>
         ensures value { result ≡ recorded (completed (K.Kind.meaning self.now.by.now.kind.now) (M.Ranging.meaning self.now.by.now.method.now) (tally_of tally.now) (unpacked self.now.a.now) (unpacked self.now.b.now)) }
     {

@@ -54,6 +54,7 @@ impl<'a, K: Kind, M: Ranging> Arithmetic<'a, K, M> {
     }
 
     // Power 0 is one unit, power 1 the operand, a higher power the one below it times the operand; each is tested.
+    #[tactic(auto, unfolding(crate::specs::Product::power))]
     pub fn power(&self, exponent: u8, operand: &ModelRecord) -> Result<WorkedRecord, Reason>
         requires operand { Ready (M.Ranging.meaning self.now.method.now) operand.now }
         ensures value { result ≡ recorded_worked (power (K.Kind.meaning self.now.kind.now) (M.Ranging.meaning self.now.method.now) self.now.order exponent (unpacked operand.now)) }

@@ -10,6 +10,7 @@ use polynomial::all_fit;
 use ranging::Ranging;
 
 // Coefficients, remainder, the method's range, and that range plus the remainder must all fit.
+#[tactic(auto, unfolding(crate::specs::Model::tested))]
 pub fn test<M: Ranging>(method: &M, model: &ModelRecord) -> Result<(), Reason>
     requires { Held room model.now }
     ensures value { result ≡ passed (tested (M.meaning method.now) (unpacked model.now)) }

@@ -1,7 +1,6 @@
 -- The three ways of the definition.
-use Rattle.std.proofs.Common.{arith}
 use Rattle.taylor.specs.Model.{unpacked}
-use Rattle.taylor.proofs.Raised.{ready_held, one-held, power_none, power-one, power_more}
+use Rattle.taylor.proofs.Raised.{ready_held, one-held, power_none}
 use Rattle.taylor.proofs.arithmetic.Arithmetic.power.Goals as goal
 
 pub alone-requires : goal.alone-requires
@@ -15,15 +14,3 @@ returns-in-0 g c =
     let k = g.K.Kind.meaning c.args.self.now.kind.now in
     let m = g.M.Ranging.meaning c.args.self.now.method.now in
     record { value = power_none k m c.args.self.now.order (unpacked c.args.operand.now) c.args.exponent c.in-0.is c.one.result c.one.ensures.value c.alone.result c.alone.ensures.value }
-
-pub returns-in-1 : goal.returns-in-1
-returns-in-1 g c =
-    let k = g.K.Kind.meaning c.args.self.now.kind.now in
-    let m = g.M.Ranging.meaning c.args.self.now.method.now in
-    record { value = power-one k m c.args.self.now.order (unpacked c.args.operand.now) c.args.exponent c.in-1.is c.alone-in-1.result c.alone-in-1.ensures.value }
-
-pub returns-in_default : goal.returns-in_default
-returns-in_default g c =
-    let k = g.K.Kind.meaning c.args.self.now.kind.now in
-    let m = g.M.Ranging.meaning c.args.self.now.method.now in
-    record { value = power_more k m c.args.self.now.order (unpacked c.args.operand.now) c.args.exponent (omega arith) c.raised.result c.raised.ensures.value }

@@ -2,13 +2,8 @@ use Rattle.taylor.specs.Model.{unpacked}
 use Rattle.taylor.proofs.Results.{passed_on}
 use Rattle.taylor.proofs.Operands.{places_room}
 use Rattle.taylor.proofs.Tallying.{tallied_kept}
-use Rattle.taylor.proofs.Multiplied.{tally_left, hulls_unfit, rest_unfit, completed_made}
+use Rattle.taylor.proofs.Multiplied.{tally_left, rest_unfit, completed_made}
 use Rattle.taylor.proofs.multiplying.Product.completed.Goals as goal
-
-pub returns-then-not-tally : goal.returns-then-not-tally
-returns-then-not-tally g c = record {
-  value = hulls_unfit (g.K.Kind.meaning c.args.self.now.by.now.kind.now) (g.M.Ranging.meaning c.args.self.now.by.now.method.now) c.args.tally.now (unpacked c.args.self.now.a.now) (unpacked c.args.self.now.b.now) c.if-not-tally.true;
-}
 
 pub returns-in_err-remainder : goal.returns-in_err-remainder
 returns-in_err-remainder g c =
