@@ -8,7 +8,7 @@ ghost use Rattle.batch.specs.DraftTerms.{terms_of};
 
 use crate::draft::Draft;
 use interval::{Interval, Reason};
-use polynomial::{Term, ZERO_TERM, all_fit, drop_zeros, enter};
+use polynomial::{Polynomial, Term, ZERO_TERM, all_fit, drop_zeros, enter};
 use ranging::Ranging;
 
 impl Draft {
@@ -58,6 +58,8 @@ impl Draft {
         ensures value { result ≡ (M.meaning method.now).range (dropped (terms_of self.now)) }
         ensures laws { Ranges (dropped (terms_of self.now)) result }
     {
-        method.range(self.reduced().as_slice())
+        method.range(Polynomial {
+            terms: self.reduced().as_slice(),
+        })
     }
 }

@@ -5,7 +5,7 @@ ghost use Rattle.batch.specs.Methods.{chosen_method, method_text, with_leaf, adv
 
 use crate::words::Word;
 use interval::Interval;
-use polynomial::Term;
+use polynomial::Polynomial;
 use ranging::{Meet, Plain, Quadratic, Ranging};
 use std::fmt;
 
@@ -20,15 +20,15 @@ pub enum MethodChoice {
 impl Ranging for MethodChoice {
     ghost meaning = { chosen_method };
 
-    fn range(&self, terms: &[Term]) -> Interval {
+    fn range(&self, polynomial: Polynomial<'_>) -> Interval {
         match self {
-            MethodChoice::Plain => Plain.range(terms),
-            MethodChoice::Quadratic => Quadratic.range(terms),
+            MethodChoice::Plain => Plain.range(polynomial),
+            MethodChoice::Quadratic => Quadratic.range(polynomial),
             MethodChoice::Both => Meet {
                 first: Plain,
                 second: Quadratic,
             }
-            .range(terms),
+            .range(polynomial),
         }
     }
 }

@@ -11,7 +11,7 @@ impl SheetRecord {
     pub fn can_charge(&self, office: u64) -> bool
         ensures value { result ≡ can_charge self.now office }
     {
-        search(&self.accounts[0..self.offices], office).found || self.offices < 8
+        search(&self.accounts[0..self.offices], office).is_ok() || self.offices < 8
     }
 
     // The pairs of all accounts.

@@ -1,12 +1,12 @@
 // The record of a model.
 ghost use Rattle.std.specs.Prelude.{◌≡◌, ◌≤◌, length};
 ghost use Rattle.interval.specs.Interval.{limit};
-ghost use Rattle.polynomial.specs.Method.{Polynomial};
+ghost use Rattle.polynomial.specs.Method as Method;
 ghost use Rattle.taylor.specs.Model.{zero_record, unpacked, full_range};
 ghost use Rattle.taylor.specs.Record.{Held};
 
 use interval::Interval;
-use polynomial::{Term, ZERO_TERM};
+use polynomial::{Polynomial, Term, ZERO_TERM};
 use ranging::Ranging;
 
 // `count` terms, zero terms after them, and the remainder. Callers keep records and compare them as data, so no fact is tied to one.
@@ -40,10 +40,10 @@ impl ModelRecord {
     // The method's range of the polynomial.
     pub(crate) fn polynomial_range<M: Ranging>(&self, method: &M) -> Interval
         requires room { self.now.count ≤ length self.now.terms }
-        requires polynomial { Polynomial (unpacked self.now).terms }
+        requires polynomial { Method.Polynomial (unpacked self.now).terms }
         ensures value { result ≡ (M.meaning method.now).range (unpacked self.now).terms }
     {
-        method.range(self.used())
+        method.range(Polynomial { terms: self.used() })
     }
 
     // The method's range of the polynomial plus the remainder.

@@ -1,13 +1,14 @@
 // What calls ask of their operands: intervals that fit, and polynomials.
-ghost use Rattle.std.specs.Prelude.{Decides};
+ghost use Rattle.std.specs.Prelude.{◌≡◌, Decides, MatchOption};
 ghost use Rattle.std.specs.List.{AllByRecursion};
 ghost use Rattle.interval.specs.Interval.{Fits};
-ghost use Rattle.polynomial.specs.Method.{FitTerm, Polynomial};
+ghost use Rattle.polynomial.specs.Method.{FitTerm};
+ghost use Rattle.polynomial.specs.Method as Method;
 ghost use Rattle.table.specs.Order.{by_degree};
 ghost use Rattle.table.specs.Table.{Ascending};
 
 use interval::Interval;
-use polynomial::Term;
+use polynomial::{Polynomial, Term};
 use table::TotalOrder;
 
 // The lower end is not above the upper, and both fit.
@@ -17,11 +18,15 @@ pub fn is_fitting(i: Interval) -> bool
     i.lower <= i.upper && i.fits()
 }
 
-// At most 40 terms that ascend, none [0, 0], whose coefficients fit.
-pub fn is_polynomial(terms: &[Term]) -> bool
-    ensures value { Decides result (Polynomial terms.now) }
+// None where the terms are more than 40, do not ascend, or one is [0, 0] or does not fit.
+pub fn polynomial_of(terms: &[Term]) -> Option<Polynomial<'_>>
+    ensures value { MatchOption result (Method.Polynomial terms.now → ⊥) (λ p. p.terms.now ≡ terms.now) }
 {
-    terms.len() <= 40 && ascend(terms) && all_fit(terms)
+    if terms.len() <= 40 && ascend(terms) && all_fit(terms) {
+        Some(Polynomial { terms })
+    } else {
+        None
+    }
 }
 
 fn ascend(terms: &[Term]) -> bool

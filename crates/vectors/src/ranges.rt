@@ -1,7 +1,7 @@
 // A method's range of a polynomial.
 use crate::answer::Answer;
 use crate::fault::Fault;
-use crate::operands::is_polynomial;
+use crate::operands::polynomial_of;
 use crate::words::Words;
 use batch::{MethodChoice, words_of};
 use polynomial::Term;
@@ -14,10 +14,8 @@ pub fn range_of(heap: Global, arguments: &str) -> Result<Answer, Fault> {
     let words = words_of(heap, spelling)?;
     let method = MethodChoice::spelled(words.as_slice()).ok_or(Fault::Unreadable)?;
     let terms = read_terms(heap, Words::from(polynomial))?;
-    if !is_polynomial(terms.as_slice()) {
-        return Err(Fault::Unreadable);
-    }
-    Ok(Answer::Ends(method.range(terms.as_slice())))
+    let polynomial = polynomial_of(terms.as_slice()).ok_or(Fault::Unreadable)?;
+    Ok(Answer::Ends(method.range(polynomial)))
 }
 
 // Their number first, then each monomial with its coefficient.

@@ -43,10 +43,5 @@ pub fn search_row(heap: Global, arguments: &str) -> Result<Answer, Fault> {
     for word in row.split_whitespace() {
         keys.push(Key(word.parse::<u8>()?))?;
     }
-    let found = search(keys.as_slice(), key);
-    Ok(Answer::Place(if found.found {
-        Ok(found.place)
-    } else {
-        Err(found.place)
-    }))
+    Ok(Answer::Place(search(keys.as_slice(), key)))
 }
