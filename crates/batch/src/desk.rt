@@ -79,9 +79,8 @@ impl Desk {
         if self.inputs.all.len() >= 6 {
             return Err(Fault::Refused(Reason::VariablesOutOfRange, name));
         }
-        let variable = Variable::new(low, high, self.kind.scale()).map_err(|reason| Fault::Refused(
-            reason, name,
-        ))?;
+        let made = Variable::new(low, high, self.kind.scale());
+        let variable = made.map_err(|reason| Fault::Refused(reason, name))?;
         self.inputs.add(heap, name, variable)?;
         Ok(())
     }
@@ -90,9 +89,8 @@ impl Desk {
     fn add_term<'a>(&mut self, coefficient: f64, factors: &[Word<'a>]) -> Result<(), Fault<'a>>
         ensures value { Took (view self.old) (term_is coefficient (map token factors.now)) (read_as (λ x. x) result) (view self.new) }
     {
-        let coefficient = Interval::hull(coefficient, self.kind.scale()).ok_or(
-            Reason::ConstantDoesNotFit,
-        )?;
+        let hull = Interval::hull(coefficient, self.kind.scale());
+        let coefficient = hull.ok_or(Reason::ConstantDoesNotFit)?;
         let monomial = monomial_of(&self.inputs, self.order, factors)?;
         self.draft.enter(Term {
             monomial,

@@ -29,9 +29,8 @@ fn read_power<'a>(text: &str, word: &'a str) -> Result<u8, Fault<'a>>
 fn place<'a>(inputs: &Inputs, name: &'a str, power: u8) -> Result<Factor, Fault<'a>>
     ensures value { read_as factor_pair result ≡ placed (names_of inputs.now) name.now power }
 {
-    let place = inputs
-        .place(name)
-        .ok_or(Fault::Mistaken(Mistake::NoInput, name))?;
+    let found = inputs.place(name);
+    let place = found.ok_or(Fault::Mistaken(Mistake::NoInput, name))?;
     Ok(Factor { place, power })
 }
 
@@ -72,10 +71,8 @@ pub fn monomial_of<'a>(
     let mut monomial = [0; 6];
     for word in factors {
         let factor = read_factor(inputs, word.text)?;
-        monomial = times(monomial, factor, order).ok_or(Fault::Mistaken(
-            Mistake::AboveOrder,
-            word.text,
-        ))?;
+        let product = times(monomial, factor, order);
+        monomial = product.ok_or(Fault::Mistaken(Mistake::AboveOrder, word.text))?;
     }
     Ok(monomial)
 }
