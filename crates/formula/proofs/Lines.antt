@@ -1,5 +1,6 @@
 -- Line by line: each text adds one entry at the end and leaves those before it. Assumes nothing.
 use Rattle.std.proofs.Common.{◌≡◌, ℕ, ◌+◌, ◌≤◌, List, [], ◌∷◌, ◌++◌, length, take, fold, refl, ap, ◌∙◌, zero-add, arith}
+use Rattle.std.proofs.lemmas.List.Sums.{fold-append}
 use Rattle.std.proofs.lemmas.List.{length_push, take_all, take-append-le}
 use Rattle.std.proofs.lemmas.List.Sums.{fold_push}
 use Rattle.formula.specs.declared.token.Token.{Token}
@@ -22,10 +23,6 @@ module _ {A : Type 0} (f : List A → List Token → A) where
   all_front below (t ∷ texts) n h =
       all_front (grown below t) texts n (omega (arith, length_push below (f below (tokens t)))) ∙ take-append-le n below (f below (tokens t) ∷ []) h
 
-  all_after : (below : List A) (texts more : List (List ℕ)) → fold grown below (texts ++ more) ≡ fold grown (fold grown below texts) more
-  all_after below [] more = refl
-  all_after below (t ∷ texts) more = all_after (grown below t) texts more
-
   -- one entry a line
   pub by_line_length : (texts : List (List ℕ)) → length (by_line f texts) ≡ length texts
   unfolding by_line
@@ -42,7 +39,7 @@ module _ {A : Type 0} (f : List A → List Token → A) where
   by_line_front texts more =
       let l = by_line_length texts in
       let here = fold grown [] texts in
-      ap (take (length texts)) (all_after [] texts more)
+      ap (take (length texts)) (fold-append grown [] texts more)
       ∙ all_front here more (length texts) (omega arith)
       ∙ take_all (length texts) here (omega arith)
 

@@ -9,6 +9,7 @@ use Rattle.sheet.specs.declared.record.SheetRecord.TheInside.{Inside}
 use Rattle.sheet.specs.Records.{zero_line, line_of, state_of, record_of_line, record_of}
 use Rattle.sheet.specs.Shape.{LineShape, Shape}
 
+-- a line's record is that of its text and of what it gave
 same_line : (l : LineRecord) → LineShape l → record_of_line (line_of l) ≡ l
 same_line l shape = λ i. record {
   office = l.office;
@@ -19,10 +20,12 @@ same_line l shape = λ i. record {
   clean = l.clean;
 }
 
+-- and so for each of some lines
 same_lines : (ls : List LineRecord) → AllByRecursion LineShape ls → map record_of_line (map line_of ls) ≡ ls
 same_lines [] shapes = refl
 same_lines (l ∷ ls) shapes = ap₂ ◌∷◌ (same_line l shapes.0) (same_lines ls shapes.1)
 
+-- a sheet's record has in use what its state has, and zeros past it
 pub same_record : (s : Inside) → Shape s → record_of (state_of s) ≡ s
 same_record s shape =
     let lines = ap (packed 12 zero_line) (same_lines _ shape.lines.each) ∙ sym shape.lines.packs.whole in
