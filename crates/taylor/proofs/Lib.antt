@@ -24,7 +24,6 @@ pub mod WholeKind
 pub mod ExactValues
 pub mod Packed
 pub mod Summing
-pub mod Questions
 pub mod Operands
 pub mod Multiplied
 pub mod Raised

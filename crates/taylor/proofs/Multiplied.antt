@@ -1,5 +1,5 @@
 -- Each way out of a product, from the tally of its pairs. Assumes nothing.
-use Rattle.std.proofs.Common.{◌≡◌, ℕ, ◌+◌, ◌*◌, ◌≤◌, Bool, true, false, ◌&&◌, leb, List, length, Ok, Err, Result, sym, refl, ap, ◌∙◌, subst, ap₂, mul-le-mul, arith}
+use Rattle.std.proofs.Common.{◌≡◌, ℕ, ◌+◌, ◌*◌, ◌≤◌, Bool, true, false, ◌&&◌, leb, List, length, Ok, Err, Result, sym, ap, ◌∙◌, subst, ap₂, mul-le-mul, arith}
 use Rattle.std.proofs.ByRecursion.{All-weaker}
 use Rattle.std.proofs.lemmas.Bool.{le-leb}
 use Rattle.interval.specs.declared.marks.Interval.{Interval}
@@ -69,10 +69,6 @@ tally_left Z =
 module _ (k : KindMeaning) (m : MethodMeaning) (Y : TallyRecord) (M N : Model) where
   abbrev rest : Result Interval Reason
   rest = require (three_fit k m M N) DoesNotFit (Ok (joint_remainder k m M N Y.model.remainder))
-
-  pub hulls_unfit : Y.fit ≡ false → Err DoesNotFit ≡ recorded (completed k m (tally_of Y) M N)
-  unfolding completed
-  hulls_unfit e = rw e refl
 
   pub rest_unfit : Y.fit ≡ true → (e : Reason) → Err e ≡ rest → Err e ≡ recorded (completed k m (tally_of Y) M N)
   unfolding completed

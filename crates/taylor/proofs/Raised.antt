@@ -1,5 +1,5 @@
 -- Powers, product by product: as many as are left bring what was worked so far to the same end. Assumes nothing.
-use Rattle.std.proofs.Common.{◌≡◌, ℕ, zero, suc, ◌+◌, ◌-◌, ◌<◌, ◌≤◌, true, length, pos, Ok, Err, Result, sym, ap, ◌∙◌, mul-le-mul, arith, lit≤}
+use Rattle.std.proofs.Common.{◌≡◌, ℕ, suc, ◌+◌, ◌-◌, ◌<◌, ◌≤◌, true, length, pos, Ok, Err, Result, sym, ap, ◌∙◌, mul-le-mul, arith, lit≤}
 use Rattle.std.proofs.ByRecursion.{All-weaker}
 use Rattle.interval.specs.declared.reason.Reason.{Reason}
 use Rattle.interval.specs.Interval.{limit, Sized, interval}
@@ -95,25 +95,8 @@ module _ (k : KindMeaning) (m : MethodMeaning) (order : ℕ) (N : Model) (n i : 
     pub raised_again : i < n → (V : WorkedRecord) → Ok V ≡ recorded_worked (times_worked k m order (worked_of W) N) → raised k m order (n - (i + 1)) (worked_of V) N ≡ raised k m order n start N
     raised_again h V r = ap (λ x. and_then x (λ v. raised k m order (n - (i + 1)) v N)) (sym (next_is k m order W V N r)) ∙ sym (left h (worked_of W)) ∙ so_far
 
-    pub raised_all : n ≤ i → Ready m W.model → Ok W ≡ recorded_worked (raised k m order n start N)
-    unfolding raised
-    raised_all h R =
-        let e : n - i ≡ 0 = omega arith in
-        let end = ap (λ j. raised k m order j (worked_of W) N) (sym e) ∙ so_far in
-        ap (λ s. Ok (record { model = s; pairs = W.pairs; clean = W.clean })) (sym (packing.same W.model R.canonical)) ∙ ap recorded_worked end
-
 -- ---- powers
 module _ (k : KindMeaning) (m : MethodMeaning) (order : ℕ) (M : Model) where
   pub power_none : (n : ℕ) → n ≡ 0 → (r : ModelRecord) → r ≡ packed (one k) → (x : Result WorkedRecord Reason) → x ≡ recorded_worked (and_then (tested m (unpacked r)) (λ N. Ok (worked N 0 true))) → x ≡ recorded_worked (power k m order n M)
   unfolding power
   power_none n z r e x h = h ∙ ap (λ N. recorded_worked (and_then (tested m N) (λ N. Ok (worked N 0 true)))) (ap unpacked e ∙ packing.back (one k)) ∙ ap (λ j. recorded_worked (power k m order j M)) (sym z)
-
-  pub power-one : (n : ℕ) → n ≡ 1 → (x : Result WorkedRecord Reason) → x ≡ recorded_worked (and_then (tested m M) (λ N. Ok (worked N 0 true))) → x ≡ recorded_worked (power k m order n M)
-  unfolding power
-  power-one n e x h = h ∙ ap (λ j. recorded_worked (power k m order j M)) (sym e)
-
-  pub power_more : (n : ℕ) → 1 < n → (x : Result WorkedRecord Reason) → x ≡ recorded_worked (raised k m order (n - 1) (worked M 0 true) M) → x ≡ recorded_worked (power k m order n M)
-  unfolding power
-  power_more zero l x h = absurd (omega arith)
-  power_more (suc zero) l x h = absurd (omega arith)
-  power_more (suc (suc n)) l x h = let e : suc (suc n) - 1 ≡ suc n = omega arith in h ∙ ap (λ j. recorded_worked (raised k m order j (worked M 0 true) M)) e

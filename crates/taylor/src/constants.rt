@@ -9,6 +9,7 @@ use interval::{Interval, Kind, Variable};
 use polynomial::{Term, ZERO_TERM, drop_zeros};
 
 // Splits the interval: the coefficient is the constant term, the leftover the remainder.
+#[tactic(auto, unfolding(crate::specs::Arithmetic::constant))]
 pub fn constant<K: Kind>(kind: &K, i: Interval) -> ModelRecord
     requires { Fits i }
     ensures value { result ≡ packed (constant (K.meaning kind.now) i) }
@@ -28,6 +29,7 @@ pub fn constant<K: Kind>(kind: &K, i: Interval) -> ModelRecord
 }
 
 // Variable `number` is its centre plus its half width times its unit coordinate.
+#[tactic(auto, unfolding(crate::specs::Arithmetic::variable_model))]
 pub fn variable(number: usize, of: &Variable) -> ModelRecord
     requires { number < 6 }
     ensures value { result ≡ packed (variable_model number of.now) }

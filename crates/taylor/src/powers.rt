@@ -38,6 +38,7 @@ fn alone<M: Ranging>(method: &M, model: &ModelRecord) -> Result<WorkedRecord, Re
 
 impl<'a, K: Kind, M: Ranging> Arithmetic<'a, K, M> {
     // The operand, multiplied by itself so many times more.
+    #[tactic(auto, unfolding(crate::specs::Product::raised))]
     fn raised(&self, more: u8, operand: &ModelRecord) -> Result<WorkedRecord, Reason>
         requires operand { Ready (M.Ranging.meaning self.now.method.now) operand.now }
         ensures value { result ≡ recorded_worked (raised (K.Kind.meaning self.now.kind.now) (M.Ranging.meaning self.now.method.now) self.now.order more (worked (unpacked operand.now) 0 true) (unpacked operand.now)) }

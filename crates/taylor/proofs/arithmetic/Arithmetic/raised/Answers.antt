@@ -3,7 +3,7 @@ use Rattle.std.proofs.Common.{true, arith}
 use Rattle.taylor.specs.Model.{unpacked}
 use Rattle.taylor.specs.Product.{worked}
 use Rattle.taylor.proofs.Results.{passed_on}
-use Rattle.taylor.proofs.Raised.{times_ready, times_counted, raised-refused, raised_again, raised_all}
+use Rattle.taylor.proofs.Raised.{times_ready, times_counted, raised-refused, raised_again}
 use Rattle.taylor.proofs.arithmetic.Arithmetic.raised.Goals as goal
 
 pub returns-in_err-worked : goal.returns-in_err-worked
@@ -29,10 +29,3 @@ loop-done-preserved g c =
       omega (arith, inv.1, times_counted k m c.args.self.now.order c.loop-done.worked V N h A.few B.few),
       raised_again k m c.args.self.now.order N c.args.more c.loop-done._done c.loop-done.worked (worked N 0 true) inv.2 c.loop-done-test.true V h,
     )
-
-pub returns : goal.returns
-returns g c =
-    let k = g.K.Kind.meaning c.args.self.now.kind.now in
-    let m = g.M.Ranging.meaning c.args.self.now.method.now in
-    let N = unpacked c.args.operand.now in
-    record { value = raised_all k m c.args.self.now.order N c.args.more c.loop-done._done c.loop-done.worked (worked N 0 true) c.loop-done.invariant.2 c.loop-done-test.false c.loop-done.invariant.0 }
