@@ -2,7 +2,7 @@
 ghost use Rattle.std.specs.Prelude.{◌≤◌};
 ghost use Rattle.taylor.specs.Form.{greatest_order};
 
-// The kind of coefficient, the ranging method, and the greatest degree that is kept.
+// The kind of coefficient, the ranging method, and the order: the greatest degree that is kept.
 #[derive(Debug, Drop)]
 pub struct Arithmetic<'a, K, M> {
     pub kind: &'a K,

@@ -28,7 +28,7 @@ struct Product<'a, K: Kind, M: Ranging> {
     ghost second: { ∥ Ready (M.Ranging.meaning by.now.method.now) b.now ∥₁ },
 }
 
-impl<'a, K: Kind, M: Ranging> Product<'a, K, M> {
+impl<K: Kind, M: Ranging> Product<'_, K, M> {
     // The pairs of all terms, row by row.
     fn gathered(&self) -> Result<TallyRecord, Reason>
         ensures { told result ≡ counted (product_tally (K.Kind.meaning self.now.by.now.kind.now) self.now.by.now.order (unpacked self.now.a.now) (unpacked self.now.b.now)) }
@@ -89,7 +89,7 @@ impl<'a, K: Kind, M: Ranging> Product<'a, K, M> {
     }
 }
 
-impl<'a, K: Kind, M: Ranging> Arithmetic<'a, K, M> {
+impl<K: Kind, M: Ranging> Arithmetic<'_, K, M> {
     // A tested product joins what was worked before.
     pub fn times(&self, worked: &WorkedRecord, by: &ModelRecord) -> Result<WorkedRecord, Reason>
         requires pairs { worked.now.pairs < 2 ^ 32 }

@@ -36,7 +36,7 @@ fn alone<M: Ranging>(method: &M, model: &ModelRecord) -> Result<WorkedRecord, Re
     })
 }
 
-impl<'a, K: Kind, M: Ranging> Arithmetic<'a, K, M> {
+impl<K: Kind, M: Ranging> Arithmetic<'_, K, M> {
     // The operand, multiplied by itself so many times more.
     #[tactic(auto, unfolding(crate::specs::Product::raised))]
     fn raised(&self, more: u8, operand: &ModelRecord) -> Result<WorkedRecord, Reason>
