@@ -20,13 +20,6 @@ bounded_product {m} {n} {a} {b} h k =
     let p = mul-le-mul (size a h) (size b k) in
     record { low = omega (arith, ints, product_is a b); high = omega (arith, ints, product_is a b) }
 
-pub bounded_floor : {n : ℕ} (z : ℤ) (S : ℕ) → Bounded n z → Bounded n (floor_div z S)
-bounded_floor (pos a) S h = let d = div-le_self a S in record { low = omega (arith, ints); high = omega (arith, ints) }
-bounded_floor (negsuc a) S h = let d = div-le_self a S in record { low = omega (arith, ints); high = omega (arith, ints) }
-
-bounded_neg : {n : ℕ} {z : ℤ} → Bounded n z → Bounded n (neg_ℤ z)
-bounded_neg h = record { low = omega (arith, ints); high = omega (arith, ints) }
-
 -- ---- the two ends
 pub lower_bounded : {n : ℕ} {i : Interval} → Sized n i → Bounded n i.lower
 lower_bounded s = record { low = s.low; high = omega (arith, ints) }

@@ -1,12 +1,13 @@
 -- The accounts of a record: how an office's account is found. Assumes nothing.
-use Rattle.std.proofs.Common.{◌≡◌, ℕ, ◌-◌, ◌<◌, Bool, true, false, not, List, length, get_or, take, Ok, Err, sym, ap, ◌∙◌}
+use Rattle.std.proofs.Common.{◌≡◌, ℕ, ◌-◌, ◌<◌, List, length, get_or, take, Ok, Err, Result, sym, ap, ◌∙◌}
 use native.Mathlib.Nat.{sub-zero}
 use Rattle.std.proofs.lemmas.List.{get_or_default}
-use Rattle.std.proofs.lemmas.Bool.{not-true, not-false, cond-true}
+use Rattle.std.proofs.lemmas.Bool.{cond-true}
 use Rattle.interval.specs.declared.reason.Reason.TheVariants.{NoAccount}
 use Rattle.interval.specs.declared.refusal.Refusal.{Refusal}
 use Rattle.table.specs.Order.{by_number}
-use Rattle.table.specs.Table.{place}
+use Rattle.table.specs.Table.{sought}
+use Rattle.table.proofs.Searches.{there, missing}
 use Rattle.table.proofs.Readings.{reads}
 use Rattle.taylor.proofs.Results.{require_yes}
 use Rattle.sheet.specs.declared.account.Account.{Account}
@@ -24,21 +25,21 @@ module _ (s : Inside) (office : ℕ) where
   lent_all : lent ≡ (state_of s).accounts
   lent_all = ap (λ n. take n s.accounts) (sub-zero s.offices)
 
+  seen : has_account lent office ≡ has_account (state_of s).accounts office
+  seen = ap (λ es. has_account es office) lent_all
+
   -- by one search
-  module _ (found : Bool) (is : found ≡ has_account lent office) where
-    searched : found ≡ has_account (state_of s).accounts office
-    searched = is ∙ ap (λ es. has_account es office) lent_all
-
-    pub account_missing : not found ≡ true → (e : Refusal) → e ≡ refusal NoAccount 0 0 → Err e ≡ read_account (state_of s) office
+  module _ (i : ℕ) where
+    pub account_missing : ◌≡◌ {A = Result ℕ ℕ} (Err i) (sought by_number (λ a. a.office) lent office) → (e : Refusal) → e ≡ refusal NoAccount 0 0 → Err e ≡ read_account (state_of s) office
     unfolding read_account
-    account_missing f e q = ap Err q ∙ sym (require_no _ _ _ (sym searched ∙ not-true found f))
+    account_missing is e q = ap Err q ∙ sym (require_no _ _ _ (sym seen ∙ missing by_number (λ (a : Account). a.office) lent office i is))
 
-    pub account-found : not found ≡ false → (i : ℕ) (d : Account) → i ≡ place by_number (λ a. a.office) lent office → (found ≡ true → i < length lent) → Ok (get_or lent i d).pairs ≡ read_account (state_of s) office
+    pub account-found : ◌≡◌ {A = Result ℕ ℕ} (Ok i) (sought by_number (λ a. a.office) lent office) → i < length lent → (d : Account) → Ok (get_or lent i d).pairs ≡ read_account (state_of s) office
     unfolding read_account
-    account-found f i d at h =
-        let t = not-false found f in
+    account-found is h d =
+        let t = there by_number (λ (a : Account). a.office) lent office i is in
         ap Ok (ap (λ a. a.pairs) (
-        get_or_default lent i d (account office 0) (h t)
-        ∙ ap (λ j. get_or lent j (account office 0)) at
-        ∙ sym (reads by_number (λ a. a.office) (account office 0) lent office ∙ cond-true _ _ _ (sym is ∙ t))))
-        ∙ rw lent_all (sym (require_yes _ _ _ (sym searched ∙ t)))
+        get_or_default lent i d (account office 0) h
+        ∙ ap (λ j. get_or lent j (account office 0)) t.0
+        ∙ sym (reads by_number (λ a. a.office) (account office 0) lent office ∙ cond-true _ _ _ t.1)))
+        ∙ rw lent_all (sym (require_yes _ _ _ (sym seen ∙ t.1)))

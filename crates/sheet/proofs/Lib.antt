@@ -18,7 +18,6 @@ mod Requires
 mod Slices
 mod Lines
 mod Strikes
-mod Ranges
 mod LineReadings
 mod Accounts
 mod Charges

@@ -16,4 +16,4 @@ pub returns : goal.returns
 returns g c =
     let l = c.in_ok-here.here.now in
     let some : Some (line_of l) ≡ slice_get c.args.self.now.lines c.args.number = rw c.in_ok-here.ensures.ok_part at c.line_at.ensures.value in
-    rw (range-is c.args.self.now c.args.number l some (g.M.Ranging.meaning c.args.method.now)) (record { value = ap Ok c.full_range.ensures.value })
+    rw (range-is c.args.self.now c.args.number l some (g.M.Ranging.meaning c.args.method.now)) (record { value = ap Ok c.range.ensures.value })
