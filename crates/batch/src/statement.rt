@@ -135,7 +135,7 @@ fn range<'w, 'a>(words: &'w [Word<'a>]) -> Result<Statement<'w, 'a>, Fault<'a>>
     }
 }
 
-// The first word says which statement it is.
+// The first word says which statement it is. A match, since each form reads words of its own: a table would need pointers to functions.
 #[tactic(auto, unfolding(crate::specs::Statements::said_from))]
 pub fn read_statement<'w, 'a>(words: &'w [Word<'a>]) -> Result<Statement<'w, 'a>, Fault<'a>>
     ensures value { read_as said result ≡ said_by (map token words.now) }

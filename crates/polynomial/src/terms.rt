@@ -1,4 +1,4 @@
-// Terms in a lent slice whose first `count` places are in use.
+// Terms in a lent slice whose first `count` places are in use: records in fixed memory keep both.
 ghost use Rattle.std.specs.Prelude.{◌≡◌, ◌≤◌, length, take, is_some, if◌then◌else◌};
 ghost use Rattle.std.specs.List.{AllByRecursion};
 ghost use Rattle.interval.specs.Interval.{Summable};

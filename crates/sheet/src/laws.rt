@@ -2,7 +2,6 @@
 ghost use Rattle.sheet.specs.Reached.{RunsReach, ReachedOnce};
 ghost use Rattle.sheet.specs.Promise.{Promised};
 ghost use Rattle.sheet.specs.Consistency.{Consistent, InnerEndsFit};
-ghost use Rattle.sheet.specs.WorkLaws.{WorkSound, WorkWhole};
 ghost use Rattle.sheet.specs.Figures.{FiguresStand};
 ghost use Rattle.sheet.specs.LargerFigures.{LargerFiguresStand};
 
@@ -15,11 +14,6 @@ pub fn logs_lead_to_sheets()
 // does not fit.
 pub fn lines_are_consistent()
     ensures laws { Consistent × InnerEndsFit }
-{}
-
-// Over sound lines a text gives a sound line; in the whole kind, over lines of points, one of points.
-pub fn work_keeps_lines_sound()
-    ensures laws { WorkSound × WorkWhole }
 {}
 
 // Every sheet that an opening and turns lead to keeps the promise, whatever the kind and the method.

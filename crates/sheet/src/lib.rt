@@ -19,6 +19,5 @@ mod striking; // striking the newest line
 mod turn; // what a sheet is asked and answers
 
 pub use account::Account;
-pub use laws::{
-    figures_stand, lines_are_consistent, logs_lead_to_sheets, promise_holds, work_keeps_lines_sound,
-};
+pub use formula::work_keeps_lines_sound;
+pub use laws::{figures_stand, lines_are_consistent, logs_lead_to_sheets, promise_holds};

@@ -10,7 +10,8 @@ ghost use Rattle.sheet.specs.State.{line};
 use taylor::{ModelRecord, WorkedRecord};
 
 // The office that posted it, `length` bytes of text with zeros after them, and what the text gave.
-// A sheet has fixed memory, so the text is an array with a length and no `Vec`. `LineShape` is no invariant of it: the zero record has no text.
+// A sheet has fixed memory, so the text is an array with a length and no `Vec`. `LineShape` is no invariant of it: the zero record
+// has no text.
 #[derive(Clone, Copy)]
 pub struct LineRecord {
     pub office: u64,

@@ -9,7 +9,8 @@ use interval::Interval;
 use polynomial::{Polynomial, Term, ZERO_TERM};
 use ranging::Ranging;
 
-// `count` terms, zero terms after them, and the remainder. Fixed memory that callers keep and compare as data: it is plain, and what is asked of one stands in `requires`.
+// `count` terms, zero terms after them, and the remainder. Fixed memory that callers keep and compare as data: it is plain, and what
+// is asked of one stands in `requires`.
 #[derive(Clone, Copy)]
 pub struct ModelRecord {
     pub count: usize,

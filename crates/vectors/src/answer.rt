@@ -48,6 +48,7 @@ impl fmt::Display for Ends {
     }
 }
 
+// A function, since both `Ordering` and `Display` are the library's.
 fn name(rank: Ordering) -> &'static str {
     match rank {
         Ordering::Less => "less",

@@ -10,6 +10,7 @@ use polynomial::reach;
 use std::alloc::Global;
 use table::TotalOrder;
 
+// By the call's name. A match, since a table of the same names would need pointers to functions.
 pub fn answer(heap: Global, call: &str) -> Result<Answer, Fault> {
     let (name, arguments) = call.split_once(' ').ok_or(Fault::Unreadable)?;
     let words = Words::from(arguments);
