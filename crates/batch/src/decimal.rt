@@ -1,5 +1,5 @@
 // Marks as exact decimal numbers of units.
-ghost use Rattle.std.specs.Prelude.{◌≡◌, ◌+◌, ◌*◌, ◌^◌, ◌<◌, pos, Some, int_lt, unsigned_abs};
+ghost use Rattle.std.specs.Prelude.{◌≡◌, ◌+◌, ◌*◌, ◌<◌, pos, Some, int_lt, unsigned_abs};
 ghost use Rattle.std.specs.Fmt.{WritesOnOk, sign_text};
 ghost use Rattle.interval.specs.Scale.{per_unit};
 ghost use Rattle.batch.specs.Decimals.{sixteen_places, fraction_digits, decimal_of, decimal_text};

@@ -16,6 +16,7 @@ use interval::{Interval, Kind, Reason, Variable};
 use polynomial::Term;
 use std::alloc::Global;
 
+// Whoever prints reads its fields, so it is seen as they are and not as a model; clauses speak of its `view`.
 #[derive(Drop)]
 pub struct Desk {
     pub kind: KindChoice,
@@ -56,7 +57,7 @@ impl Desk {
     fn choose_order<'a>(&mut self, order: u64) -> Result<(), Fault<'a>>
         ensures value { Took (view self.old) (order_is order) (read_as (λ x. x) result) (view self.new) }
     {
-        if order < 1 || order > 8 {
+        if !(1..=8).contains(&order) {
             return Err(Reason::OrderOutOfRange.into());
         }
         self.order = order as u8;

@@ -5,7 +5,7 @@ ghost use Rattle.batch.specs.Drafts.{canonical};
 use polynomial::Term;
 
 // The first `count` terms are in use: they ascend, and their coefficients fit.
-// An array, not a Vec: entering then asks for no memory, and a table works over a lent slice.
+// An array, as a model has: with a Vec, entering a term could fail for want of memory, which it cannot.
 #[derive(Clone, Copy)]
 pub struct Draft {
     pub terms: [Term; 40],

@@ -21,7 +21,7 @@ impl Draft {
         }
     }
 
-    // The terms in use.
+    // The terms in use, as `used` of a model's record: one line each, and no type is common to both.
     pub fn as_slice(&self) -> &[Term]
         ensures value { result.now ≡ terms_of self.now }
     {

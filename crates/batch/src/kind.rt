@@ -33,7 +33,7 @@ impl Kind for KindChoice {
 }
 
 impl KindChoice {
-    // `whole`, `fixed` or `interval`. No FromStr: each caller has an error of its own, and would throw that one away.
+    // `whole`, `fixed` or `interval`. No FromStr: each caller has an error of its own in place of that one.
     pub fn named(word: &str) -> Option<KindChoice>
         ensures value { result ≡ kind_named word.now }
     {

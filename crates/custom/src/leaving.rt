@@ -14,6 +14,6 @@ impl Kind for LeavingKind {
     }
 
     fn split(&self, i: Interval) -> (Interval, Interval) {
-        (Interval { lower: 0, upper: 0 }, i)
+        (Interval::ZERO, i)
     }
 }

@@ -28,6 +28,16 @@ fn rounded_out(least: i64, greatest: i64, scale: Scale) -> Interval
 }
 
 impl Interval {
+    // One number of marks.
+    pub fn point(marks: i64) -> Interval
+        ensures value { result ≡ interval marks marks }
+    {
+        Interval {
+            lower: marks,
+            upper: marks,
+        }
+    }
+
     // Both ends lie from -LIMIT to LIMIT.
     pub fn fits(self) -> bool
         ensures value { result ≡ fits self }

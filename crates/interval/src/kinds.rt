@@ -28,10 +28,7 @@ fn point_split(i: Interval) -> (Interval, Interval)
     ensures laws { Splits i result }
 {
     (
-        Interval {
-            lower: i.lower,
-            upper: i.lower,
-        },
+        Interval::point(i.lower),
         Interval {
             lower: 0,
             upper: i.upper - i.lower,
@@ -71,6 +68,6 @@ impl Kind for IntervalKind {
     }
 
     fn split(&self, i: Interval) -> (Interval, Interval) {
-        (i, Interval { lower: 0, upper: 0 })
+        (i, Interval::ZERO)
     }
 }

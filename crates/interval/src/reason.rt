@@ -76,6 +76,7 @@ pub enum Reason {
 }
 
 impl Reason {
+    // The rules fix the numbers, so this is a cast of the enum and no conversion of its own.
     pub fn number(self) -> u8
         ensures value { result ≡ number self }
     {
@@ -126,7 +127,6 @@ impl fmt::Display for Reason {
     ghost output = { λ x. Some (words x) };
 
     fn fmt<W: fmt::Write>(&self, f: &mut fmt::Formatter<W>) -> fmt::Result {
-        let words = self.words();
-        write!(f, "{words}")
+        f.write_str(self.words())
     }
 }

@@ -17,12 +17,10 @@ impl Scale {
         if marks == 0 || marks > 65_536 {
             return None;
         }
-        let bits = marks.ilog2();
-        if marks == 1 << bits {
-            Some(Scale { bits })
-        } else {
-            None
-        }
+        let scale = Scale {
+            bits: marks.ilog2(),
+        };
+        (scale.marks() == marks).then_some(scale)
     }
 
     // One mark is one unit. This and the next are constants of their own: a parameter would bring `new` back, with its None.

@@ -12,6 +12,6 @@ pub fn coefficient_at(terms: &[Term], monomial: Monomial) -> Interval
 {
     match search(terms, monomial) {
         Ok(at) => terms[at].coefficient,
-        Err(_) => Interval { lower: 0, upper: 0 },
+        Err(_) => Interval::ZERO,
     }
 }

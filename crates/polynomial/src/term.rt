@@ -16,7 +16,7 @@ pub struct Term {
 // What fills the unused places of a table.
 pub const ZERO_TERM: Term = Term {
     monomial: [0; 6],
-    coefficient: Interval { lower: 0, upper: 0 },
+    coefficient: Interval::ZERO,
 };
 
 impl Entry for Term {
@@ -41,10 +41,9 @@ impl Entry for Term {
     }
 
     fn join(self, other: Term) -> Term {
-        let monomial = self.monomial;
         Term {
-            monomial,
             coefficient: self.coefficient.plus(other.coefficient),
+            ..self
         }
     }
 }

@@ -64,7 +64,7 @@ impl Parabola {
         if self.square < 0 {
             return rounded(self.linear_squared(), -4 * self.square);
         }
-        Interval { lower: 0, upper: 0 }
+        Interval::ZERO
     }
 
     // The vertex lies between u = -1 and u = 1.

@@ -32,7 +32,7 @@ pub fn part(polynomial: Polynomial<'_>, t: Term) -> Interval
     let terms = polynomial.terms;
     let monomial = t.monomial;
     match degree(monomial) {
-        1 if is_paired(terms, monomial) => Interval { lower: 0, upper: 0 },
+        1 if is_paired(terms, monomial) => Interval::ZERO,
         2 if all_even(monomial) && is_paired(terms, square_root(monomial)) => Parabola {
             square: t.coefficient.lower,
             linear: coefficient_at(terms, square_root(monomial)).lower,

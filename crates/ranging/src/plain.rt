@@ -18,7 +18,7 @@ pub fn plain_range(terms: &[Term]) -> Interval
     requires { Addable terms.now }
     ensures value { result ≡ plain terms.now }
 {
-    let mut range = Interval { lower: 0, upper: 0 };
+    let mut range = Interval::ZERO;
     for t in terms {
         range = range.plus(reach(t.monomial, t.coefficient));
     }

@@ -12,10 +12,11 @@ use polynomial::Polynomial;
 #[derive(Clone, Copy, Debug)]
 pub struct Quadratic;
 
+// A loop of its own, as the plain range has, which says why.
 pub fn quadratic_range(polynomial: Polynomial<'_>) -> Interval
     ensures value { result ≡ quadratic polynomial.entry.terms.now }
 {
-    let mut range = Interval { lower: 0, upper: 0 };
+    let mut range = Interval::ZERO;
     for t in polynomial.terms {
         range = range.plus(part(polynomial, *t));
     }

@@ -21,7 +21,7 @@ pub fn all_even(monomial: Monomial) -> bool
     monomial.iter().all(|exponent| *exponent % 2 == 0)
 }
 
-// Adds the exponents place by place.
+// Adds the exponents place by place. The place is counted: of two iterators side by side, one of which writes, a proof knows the length alone.
 pub fn product(a: Monomial, b: Monomial) -> Monomial
     requires { degree a + degree b ≤ 255 }
     ensures value { result ≡ multiplied a b }

@@ -8,6 +8,7 @@ ghost use Rattle.table.specs.View.{slice_of, in_use};
 use crate::entries::{Full, Table};
 use crate::lookup::{Entry, search};
 
+// The library's `fill` asks that a clone cannot fail, which of any E that is Copy is not known.
 fn fill<E: Copy>(entries: &mut [E], blank: E)
     ensures after { entries.new ≡ replicate (length entries.old) blank }
 {

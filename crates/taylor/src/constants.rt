@@ -1,6 +1,6 @@
 // Models of constants and variables.
 ghost use Rattle.std.specs.Prelude.{◌≡◌, ◌<◌};
-ghost use Rattle.interval.specs.Interval.{Fits, interval};
+ghost use Rattle.interval.specs.Interval.{Fits};
 ghost use Rattle.taylor.specs.Arithmetic.{constant, variable_model};
 ghost use Rattle.taylor.specs.Model.{packed};
 
@@ -39,26 +39,16 @@ pub fn variable(number: usize, of: &Variable) -> ModelRecord
     let mut terms = [ZERO_TERM; 40];
     terms[0] = Term {
         monomial: [0; 6],
-        coefficient: point(of.centre),
+        coefficient: Interval::point(of.centre),
     };
     terms[1] = Term {
         monomial: linear,
-        coefficient: point(of.half),
+        coefficient: Interval::point(of.half),
     };
     let count = drop_zeros(&mut terms, 2);
     ModelRecord {
         count,
         terms,
-        remainder: point(0),
-    }
-}
-
-// A number of marks.
-pub fn point(marks: i64) -> Interval
-    ensures value { result ≡ interval marks marks }
-{
-    Interval {
-        lower: marks,
-        upper: marks,
+        remainder: Interval::ZERO,
     }
 }

@@ -65,7 +65,7 @@ fn hold(fit: &mut bool, pair: Term) -> Term
     }
     *fit = false;
     Term {
-        coefficient: Interval { lower: 0, upper: 0 },
+        coefficient: Interval::ZERO,
         ..pair
     }
 }

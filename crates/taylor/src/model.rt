@@ -9,8 +9,8 @@ use interval::Interval;
 use polynomial::{Polynomial, Term, ZERO_TERM};
 use ranging::Ranging;
 
-// `count` terms, zero terms after them, and the remainder. Fixed memory that callers keep and compare as data: it is plain, and what
-// is asked of one stands in `requires`.
+// `count` terms, zero terms after them, and the remainder. Fixed memory that callers lend and have read into, as plain as it is: what is
+// asked of one differs from call to call (how large its ends are, which method's test it has passed), and so stands in `requires`.
 #[derive(Clone, Copy)]
 pub struct ModelRecord {
     pub count: usize,
@@ -26,7 +26,7 @@ impl ModelRecord {
         ModelRecord {
             count: 0,
             terms: [ZERO_TERM; 40],
-            remainder: Interval { lower: 0, upper: 0 },
+            remainder: Interval::ZERO,
         }
     }
 

@@ -8,11 +8,11 @@ ghost use Rattle.taylor.specs.Product.{worked, raised, power};
 ghost use Rattle.taylor.specs.Record.{Held, Ready, recorded_worked};
 
 use crate::arithmetic::Arithmetic;
-use crate::constants::{constant, point};
+use crate::constants::constant;
 use crate::model::ModelRecord;
 use crate::testing::test;
 use crate::worked::WorkedRecord;
-use interval::{Kind, Reason};
+use interval::{Interval, Kind, Reason};
 use ranging::Ranging;
 
 // One unit.
@@ -20,7 +20,7 @@ fn one<K: Kind>(kind: &K) -> ModelRecord
     ensures value { result ≡ packed (one (K.meaning kind.now)) }
 {
     let marks = i64::from(kind.scale().marks());
-    constant(kind, point(marks))
+    constant(kind, Interval::point(marks))
 }
 
 // A tested model that took no pairs.

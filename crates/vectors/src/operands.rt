@@ -18,7 +18,8 @@ pub fn is_fitting(i: Interval) -> bool
     i.lower <= i.upper && i.fits()
 }
 
-// None where the terms are more than 40, do not ascend, or one is [0, 0] or does not fit.
+// None where the terms are more than 40, do not ascend, or one is [0, 0] or does not fit. An if, since only after the tests the terms may be
+// called a polynomial.
 pub fn polynomial_of(terms: &[Term]) -> Option<Polynomial<'_>>
     ensures value { MatchOption result (Method.Polynomial terms.now → ⊥) (λ p. p.terms.now ≡ terms.now) }
 {

@@ -9,9 +9,8 @@ pub enum Failure {
     Unread(anyhow::Error),
     // a line's number, and what is wrong with the line
     Line(usize, String),
-    OutOfMemory,
-    // what is to be printed cannot be
-    Unwritable,
+    // memory is wanting, or what is to be printed cannot be: no words are told
+    Untold,
 }
 
 impl Failure {
@@ -28,26 +27,25 @@ impl fmt::Display for Failure {
         match self {
             Failure::Unread(error) => write!(f, "the batch cannot be read: {error}"),
             Failure::Line(number, words) => write!(f, "line {number}: {words}"),
-            Failure::OutOfMemory => write!(f, "no memory is left"),
-            Failure::Unwritable => write!(f, "the output cannot be written"),
+            Failure::Untold => Ok(()),
         }
     }
 }
 
 impl From<AllocError> for Failure {
     fn from(_: AllocError) -> Self {
-        Failure::OutOfMemory
+        Failure::Untold
     }
 }
 
 impl<T: Drop> From<AllocFailed<T>> for Failure {
     fn from(_: AllocFailed<T>) -> Self {
-        Failure::OutOfMemory
+        Failure::Untold
     }
 }
 
 impl From<io::Error> for Failure {
     fn from(_: io::Error) -> Self {
-        Failure::Unwritable
+        Failure::Untold
     }
 }

@@ -68,7 +68,7 @@ fn run(rt: &HostRuntime) -> Result<(), Failure> {
 fn tell(rt: &HostRuntime, failure: &Failure) -> io::Result<()> {
     match failure {
         Failure::Unread(_) | Failure::Line(..) => eprintln!(rt; "zegborite: {failure}"),
-        Failure::OutOfMemory | Failure::Unwritable => Ok(()),
+        Failure::Untold => Ok(()),
     }
 }
 

@@ -1,5 +1,9 @@
 -- The one power of two that a number lies at or above, and below the next.
-use Rattle.std.proofs.Common.{◌≡◌, ℕ, suc, ◌^◌, ◌*◌, ◌≤◌, ◌<◌, ap, inl, inr, arith}
+use Rattle.std.proofs.Common.{◌≡◌, ℕ, suc, Bool, true, false, MatchOption, eqb, refl, sym, true≢false, ◌∙◌, ◌^◌, ◌*◌, ◌≤◌, ◌<◌, ap, inl, inr, arith}
+use Rattle.std.specs.Bool.{then_some}
+use Rattle.std.proofs.lemmas.Bool.{eqb-true, eq-eqb}
+use Rattle.interval.specs.declared.scale.Scale.{Scale}
+use Rattle.interval.specs.Kind.{IsScale}
 use Rattle.std.proofs.Math.Pow.{pow_mono}
 use Rattle.std.proofs.lemmas.Nat.{pow_pos}
 use Rattle.std.proofs.Math.Nat.{pow-succ'}
@@ -23,8 +27,18 @@ the_power k n low high =
 at_most : (k n : ℕ) → 2 ^ k ≤ 2 ^ n → k ≤ n
 at_most k n h = elim (cases_lt n k) [ inl above ↦ let d = doubled n k above in absurd (omega (arith, pow_pos n)) | inr at ↦ at ]
 
-pub invariant_of-result : goal.invariant_of-result
-invariant_of-result c = record { small = at_most c.ilog2-bits.result 16 (omega arith) }
+-- what the test of the power's marks chooses
+chosen : (m n : ℕ) (x : Scale) → n ≡ 2 ^ x.bits → (IsScale m → m ≡ 2 ^ x.bits) → MatchOption (then_some (eqb n m) x) (IsScale m → ⊥) (λ s. 2 ^ s.bits ≡ m)
+chosen m n x is only = go (eqb n m) refl
+  where
+    go : (b : Bool) → eqb n m ≡ b → MatchOption (then_some b x) (IsScale m → ⊥) (λ s. 2 ^ s.bits ≡ m)
+    go true e = let same = eqb-true n m e in omega arith
+    go false e = λ s. let p = only s in absurd (true≢false (sym (eq-eqb n m (omega arith)) ∙ e))
 
-pub returns-else-marks-bits : goal.returns-else-marks-bits
-returns-else-marks-bits c = record { value = λ s. let p = the_power c.ilog2-bits.result s.0 (omega arith) (omega arith) in absurd (c.if-marks-bits.false (omega arith)) }
+pub invariant_of-scale : goal.invariant_of-scale
+invariant_of-scale c = record { small = at_most c.ilog2.result 16 (omega arith) }
+
+pub returns : goal.returns
+returns c = record {
+  value = rw c.then_some.ensures (chosen c.args.marks c.marks.result _ c.marks.ensures.value (λ s. let p = the_power c.ilog2.result s.0 (omega arith) (omega arith) in omega (arith, s.2)));
+}
