@@ -24,6 +24,7 @@ pub fn reach(monomial: Monomial, i: Interval) -> Interval
 mod tests {
     use super::*;
 
+    // As in the tests of other crates, which share no code with these.
     fn ends(lower: i64, upper: i64) -> Interval {
         Interval { lower, upper }
     }

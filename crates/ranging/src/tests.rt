@@ -58,6 +58,7 @@ const MIXED: [Term; 4] = [
     },
 ];
 
+// As in the tests of other crates, which share no code with these.
 fn ends(lower: i64, upper: i64) -> Interval {
     Interval { lower, upper }
 }
