@@ -1,5 +1,5 @@
 -- The accounts of a record: how an office's account is found. Assumes nothing.
-use Rattle.std.proofs.Common.{◌≡◌, ℕ, ◌-◌, ◌<◌, List, length, get_or, take, Ok, Err, Result, sym, ap, ◌∙◌}
+use Rattle.std.proofs.Common.{◌≡◌, ℕ, ◌-◌, ◌<◌, false, List, length, get_or, take, is_ok, Ok, Err, Result, sym, ap, ◌∙◌}
 use native.Mathlib.Nat.{sub-zero}
 use Rattle.std.proofs.lemmas.List.{get_or_default}
 use Rattle.std.proofs.lemmas.Bool.{cond-true}
@@ -29,11 +29,12 @@ module _ (s : Inside) (office : ℕ) where
   seen = ap (λ es. has_account es office) lent_all
 
   -- by one search
-  module _ (i : ℕ) where
-    pub account_missing : ◌≡◌ {A = Result ℕ ℕ} (Err i) (sought by_number (λ a. a.office) lent office) → (e : Refusal) → e ≡ refusal NoAccount 0 0 → Err e ≡ read_account (state_of s) office
-    unfolding read_account
-    account_missing is e q = ap Err q ∙ sym (require_no _ _ _ (sym seen ∙ missing by_number (λ (a : Account). a.office) lent office i is))
+  pub account_missing : (r : Result ℕ ℕ) → r ≡ sought by_number (λ a. a.office) lent office → is_ok r ≡ false → (out : Result ℕ Refusal) → out ≡ Err (refusal NoAccount 0 0) → out ≡ read_account (state_of s) office
+  unfolding read_account
+  account_missing (Ok i) is none out q = cc
+  account_missing (Err i) is none out q = q ∙ sym (require_no _ _ _ (sym seen ∙ missing by_number (λ (a : Account). a.office) lent office i is))
 
+  module _ (i : ℕ) where
     pub account-found : ◌≡◌ {A = Result ℕ ℕ} (Ok i) (sought by_number (λ a. a.office) lent office) → i < length lent → (d : Account) → Ok (get_or lent i d).pairs ≡ read_account (state_of s) office
     unfolding read_account
     account-found is h d =

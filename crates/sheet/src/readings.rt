@@ -37,9 +37,7 @@ impl SheetRecord {
         ensures value { result ≡ read_account self.now office }
     {
         let accounts = &self.accounts[0..self.offices];
-        match search(accounts, office) {
-            Ok(at) => Ok(accounts[at].pairs),
-            Err(_) => Err(refuse(Reason::NoAccount, 0)),
-        }
+        let at = search(accounts, office).map_err(|_| refuse(Reason::NoAccount, 0))?;
+        Ok(accounts[at].pairs)
     }
 }
