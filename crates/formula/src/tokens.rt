@@ -14,11 +14,11 @@ pub(crate) struct Tokens<'a> {
     at: usize,
 }
 
-impl<'a> Tokens<'a> {
-    // From the first byte on.
-    pub(crate) fn of(text: &'a [u8]) -> Tokens<'a>
-        ensures value { tokens_left result ≡ tokens text.now }
-    {
+// From the first byte on.
+impl<'a> From<&'a [u8]> for Tokens<'a> {
+    ghost from_gives = { λ text t. tokens_left t ≡ tokens text.now };
+
+    fn from(text: &'a [u8]) -> Tokens<'a> {
         Tokens { text, at: 0 }
     }
 }

@@ -6,6 +6,8 @@ ghost use Rattle.formula.specs.Meaning.{token_uses, any_uses};
 use crate::token::Token;
 use crate::tokens::Tokens;
 
+// The variable and the marks below go together in three functions, here and over a line's record: they are the question itself, and a
+// struct of the two would be taken apart at each use.
 fn token_uses(token: Token, variable: usize, below: &[bool]) -> bool
     ensures value { result ≡ token_uses variable below.now token }
 {
@@ -20,5 +22,5 @@ fn token_uses(token: Token, variable: usize, below: &[bool]) -> bool
 pub fn uses(text: &[u8], variable: usize, below: &[bool]) -> bool
     ensures value { result ≡ any_uses variable below.now (tokens text.now) }
 {
-    Tokens::of(text).any(|token| token_uses(token, variable, below))
+    Tokens::from(text).any(|token| token_uses(token, variable, below))
 }

@@ -12,6 +12,6 @@ returns c =
     let p = token_uses c.args.variable c.args.below.now in
     record {
       value = settled p (tokens c.args.text.now) c.any.result
-          (cases_from_any c.any.new.self _ _ (λ t. p t ≡ true) (λ t. p t ≡ false) c.any.ensures.ran (YieldsList-from_first (λ t. t) tokens_left (tokens c.args.text.now) c.of.ensures.value)
+          (cases_from_any c.any.new.self _ _ (λ t. p t ≡ true) (λ t. p t ≡ false) c.any.ensures.ran (YieldsList-from_first (λ t. t) tokens_left (tokens c.args.text.now) c.from.ensures)
           (λ x q k. search rules) (λ x q k. search rules));
     }
