@@ -36,8 +36,8 @@ impl Entry for Account {
 
     fn join(self, other: Account) -> Account {
         Account {
-            office: self.office,
             pairs: self.pairs + other.pairs,
+            ..self
         }
     }
 }

@@ -1,4 +1,5 @@
 // Looks at what stands in a sheet.
+// Each look at a line is one line: a common one would take the field as a closure, and say its contract by the closure's.
 ghost use Rattle.std.specs.Prelude.{◌≡◌, IfSome};
 ghost use Rattle.std.specs.Option.{option_map};
 ghost use Rattle.std.specs.List.{slice_get};

@@ -25,6 +25,7 @@ impl SheetRecord {
         ensures value { result ≡ packed 12 false (uses variable (texts self.now.lines)) }
     {
         let mut marked = [false; 12];
+        // The loop counts its lines, since each is marked from the marks of the lines below it.
         for (n, here) in self.lines[0..self.standing].iter().enumerate() {
             marked[n] = line_uses(here, variable as usize, &marked[0..n]);
         }
