@@ -43,10 +43,10 @@ module _ (s : State) (n : ℕ) where
 
   -- it does
   module _ (l : LineRecord) (some : Some (line_of l) ≡ slice_get s.lines n) where
-    pub model-is : read_model s n ≡ Ok (unpacked l.model)
+    pub model-is : read_model s n ≡ Ok (unpacked l.worked.model)
     model-is = model_as (Some (line_of l)) some
 
-    pub range-is : (m : MethodMeaning) → read_range m s n ≡ Ok (full_range m (unpacked l.model))
+    pub range-is : (m : MethodMeaning) → read_range m s n ≡ Ok (full_range m (unpacked l.worked.model))
     range-is m = range_as m (Some (line_of l)) some
 
 -- what is handed on is the refusal of a line that does not stand

@@ -15,9 +15,7 @@ same_line l shape = λ i. record {
   office = l.office;
   text = sym shape.text.whole i;
   length = sym shape.text.size i;
-  model = packing.same l.model shape.model.canonical i;
-  pairs = l.pairs;
-  clean = l.clean;
+  worked = record { model = packing.same l.worked.model shape.model.canonical i; pairs = l.worked.pairs; clean = l.worked.clean };
 }
 
 -- and so for each of some lines

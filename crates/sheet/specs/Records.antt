@@ -6,9 +6,8 @@ use Rattle.interval.specs.Reason.{and_then}
 use Rattle.table.specs.Slice as slice
 use Rattle.taylor.specs.declared.model.ModelRecord.{ModelRecord}
 use Rattle.taylor.specs.declared.worked.WorkedRecord.{WorkedRecord}
-use Rattle.taylor.specs.Model.{Model, packed, unpacked, zero_record}
-use Rattle.taylor.specs.Record.{packed_worked}
-use Rattle.taylor.specs.Product.{worked}
+use Rattle.taylor.specs.Model.{Model, packed, zero_record}
+use Rattle.taylor.specs.Record.{worked_of, packed_worked}
 use Rattle.formula.specs.Work.{no_variable}
 use Rattle.sheet.specs.declared.account.Account.{Account}
 use Rattle.sheet.specs.declared.line.LineRecord.{LineRecord}
@@ -17,11 +16,11 @@ use Rattle.sheet.specs.State.{Line, line, State, account, charged}
 
 -- what stands where no line does: nothing but zeros
 abbrev pub zero_line : LineRecord
-zero_line = record { office = 0; text = replicate 255 0; length = 0; model = zero_record; pairs = 0; clean = false }
+zero_line = record { office = 0; text = replicate 255 0; length = 0; worked = record { model = zero_record; pairs = 0; clean = false } }
 
 -- the line that a record holds
 abbrev pub line_of : LineRecord → Line
-line_of l = line l.office (take l.length l.text) (worked (unpacked l.model) l.pairs l.clean)
+line_of l = line l.office (take l.length l.text) (worked_of l.worked)
 
 -- the record of an office's text and of what it gave
 abbrev pub recorded_line : ℕ → List ℕ → WorkedRecord → LineRecord
@@ -29,9 +28,7 @@ recorded_line office text w = record {
   office = office;
   text = slice.packed 255 0 text;
   length = length text;
-  model = w.model;
-  pairs = w.pairs;
-  clean = w.clean;
+  worked = w;
 }
 
 -- the records of the lines that stand

@@ -36,7 +36,7 @@ pub record BoxShape (count : ℕ) (vs : List Variable) : Type 0 where
 pub record LineShape (l : LineRecord) : Type 0 where
   pub size : FromTo 1 255 l.length
   pub text : Packs 255 0 l.text l.length (take l.length l.text)
-  pub model : Held limit l.model
+  pub model : Held limit l.worked.model
 
 -- up to twelve lines stand, and past them is nothing but zeros
 pub record LinesShape (count : ℕ) (ls : List LineRecord) : Type 0 where

@@ -14,10 +14,10 @@ impl SheetRecord {
         requires formed { LineShape newest }
         requires space { length self.old.lines < 12 }
         requires room { can_charge self.old newest.office ≡ true }
-        requires paid { affordable self.old newest.pairs ≡ true }
+        requires paid { affordable self.old newest.worked.pairs ≡ true }
         ensures after { self.new ≡ with_line self.old (line_of newest) }
     {
-        self.charge(newest.office, newest.pairs);
+        self.charge(newest.office, newest.worked.pairs);
         let number = self.standing;
         self.lines[number] = newest;
         self.standing = number + 1;

@@ -17,9 +17,7 @@ pub struct LineRecord {
     pub office: u64,
     pub text: [u8; 255],
     pub length: usize,
-    pub model: ModelRecord,
-    pub pairs: u64,
-    pub clean: bool,
+    pub worked: WorkedRecord,
 }
 
 // The posted bytes, and zeros after them.
@@ -42,9 +40,11 @@ impl LineRecord {
             office: 0,
             text: [0; 255],
             length: 0,
-            model: ModelRecord::zero(),
-            pairs: 0,
-            clean: false,
+            worked: WorkedRecord {
+                model: ModelRecord::zero(),
+                pairs: 0,
+                clean: false,
+            },
         }
     }
 
@@ -59,9 +59,7 @@ impl LineRecord {
             office,
             text: recorded(posted),
             length: posted.len(),
-            model: worked.model,
-            pairs: worked.pairs,
-            clean: worked.clean,
+            worked: *worked,
         }
     }
 

@@ -44,13 +44,13 @@ impl SheetRecord {
     pub fn pairs_of(&self, number: u64) -> Option<u64>
         ensures value { result ≡ option_map (λ l. l.worked.pairs) (slice_get self.now.lines number) }
     {
-        Some(self.line_at(number)?.pairs)
+        Some(self.line_at(number)?.worked.pairs)
     }
 
     // Whether none of its pairs was cut, and every line that it names is clean.
     pub fn is_clean(&self, number: u64) -> Option<bool>
         ensures value { result ≡ option_map (λ l. l.worked.clean) (slice_get self.now.lines number) }
     {
-        Some(self.line_at(number)?.clean)
+        Some(self.line_at(number)?.worked.clean)
     }
 }

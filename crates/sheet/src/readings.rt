@@ -19,7 +19,7 @@ impl SheetRecord {
         let here = self
             .line_at(number)
             .ok_or(refuse(Reason::NoLineToRead, number))?;
-        *out = here.model;
+        *out = here.worked.model;
         Ok(())
     }
 
@@ -29,7 +29,7 @@ impl SheetRecord {
         let here = self
             .line_at(number)
             .ok_or(refuse(Reason::NoLineToRead, number))?;
-        Ok(here.model.range(method))
+        Ok(here.worked.model.range(method))
     }
 
     // The office is not tested otherwise.

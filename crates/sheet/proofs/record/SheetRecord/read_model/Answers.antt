@@ -21,4 +21,4 @@ returns c =
     let e = c.in_ok-here.ensures in
     let some : Some (line_of l) ≡ slice_get c.args.self.now.lines c.args.number = rw e.ok_part at c.line_at.ensures.value in
     let formed : LineShape l = rw e.ok_part at c.line_at.ensures.formed in
-    rw (model-is c.args.self.now c.args.number l some) (record { value = refl; after = sym (packing.same l.model formed.model.canonical) })
+    rw (model-is c.args.self.now c.args.number l some) (record { value = refl; after = sym (packing.same l.worked.model formed.model.canonical) })
