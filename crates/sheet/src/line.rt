@@ -11,7 +11,8 @@ use taylor::{ModelRecord, WorkedRecord};
 
 // The office that posted it, `length` bytes of text with zeros after them, and what the text gave.
 // A sheet has fixed memory, so the text is an array with a length and no `Vec`. `LineShape` is no invariant of it: the zero record
-// has no text.
+// has no text, and with a Model of LineRecord a part of the array of lines gets a generated proof only where the whole array is lent
+// as a slice first, as was tried.
 #[derive(Clone, Copy)]
 pub struct LineRecord {
     pub office: u64,
