@@ -1,18 +1,20 @@
 -- A canonical list of terms ascends and its coefficients fit; a term that enters one keeps it so, if every coefficient still fits.
-use Rattle.std.proofs.Common.{◌≡◌, true, ◌&&◌, List, [], ◌∷◌, length, ◌≤ℤ◌, Ordering, Less, Equal, Greater, sym, refl, ap, true≢false, arith, rules}
+use Rattle.std.proofs.Common.{◌≡◌, true, ◌&&◌, List, [], ◌∷◌, length, ◌≤ℤ◌, Ordering, Less, Equal, Greater, sym, refl, ap, true≢false, lit≤, arith, rules}
 use Rattle.std.specs.Ordering.{is_lt}
 use Rattle.std.specs.List.{AllByRecursion}
+use Rattle.std.proofs.ByRecursion.{All-weaker}
 use Rattle.std.proofs.lemmas.Int.{ints}
 use Rattle.std.proofs.lemmas.Bool.{and_parts, and_from}
 use Rattle.interval.specs.Interval.{Fits, Summable, fits}
 use Rattle.interval.specs.declared.marks.Interval.{Interval}
-use Rattle.interval.proofs.Sizes.{fits-sized, sized-fits}
+use Rattle.interval.proofs.Sizes.{sized_weaken, fits-sized, sized-fits}
 use Rattle.polynomial.specs.declared.term.Term.{Term}
 use Rattle.polynomial.specs.Reach.{joined, with_term}
 use Rattle.polynomial.specs.Terms.{all_fit}
 use Rattle.table.specs.Order.{by_degree, rank_monomials}
 use Rattle.table.specs.Table.{by_rank, Next, Ascending}
 use Rattle.table.proofs.Ascents.{entered-ascends}
+use Rattle.table.proofs.Growth.{all_entered}
 use Rattle.batch.specs.Drafts.{fitting, before, canonical}
 
 -- what `fitting` tests
@@ -72,18 +74,8 @@ shaped t f = record { six = f.six; order = f.fit.order }
 shaped_joined : (t u : Term) → Shaped t → Shaped u → Shaped (joined t u)
 shaped_joined t u a b = let p = a.order in let q = b.order in record { six = a.six; order = omega (arith, ints) }
 
-shaped_all : (ts : List Term) → AllByRecursion Fitting ts → AllByRecursion Shaped ts
-shaped_all [] f = tt
-shaped_all (t ∷ ts) f = (shaped t f.0, shaped_all ts f.1)
-
 with_shaped : (ts : List Term) (t : Term) → AllByRecursion Shaped ts → Shaped t → AllByRecursion Shaped (with_term ts t)
-with_shaped [] t f s = (s, tt)
-with_shaped (u ∷ us) t f s = go (rank_monomials u.monomial t.monomial) (with_shaped us t f.1 s)
-  where
-    go : (r : Ordering) → AllByRecursion Shaped (with_term us t) → AllByRecursion Shaped (by_rank r (u ∷ with_term us t) (joined u t ∷ us) (t ∷ u ∷ us))
-    go Less rest = (f.0, rest)
-    go Equal rest = (shaped_joined u t f.0 s, f.1)
-    go Greater rest = (s, f)
+with_shaped ts t f s = all_entered by_degree (λ u. u.monomial) joined Shaped Shaped t (λ u h. h) s (λ u h. shaped_joined u t h s) ts f
 
 fitting_all : (ts : List Term) → AllByRecursion Shaped ts → all_fit ts ≡ true → AllByRecursion Fitting ts
 fitting_all [] s e = tt
@@ -94,12 +86,8 @@ fitting_all (t ∷ ts) s e =
 pub with_term_canonical : (ts : List Term) (t : Term) → canonical ts ≡ true → Fitting t → all_fit (with_term ts t) ≡ true → canonical (with_term ts t) ≡ true
 with_term_canonical ts t c f e =
     let rising = entered-ascends by_degree (λ u. u.monomial) joined (λ a b. refl) ts t (ascends ts c) in
-    canonical_from (with_term ts t) rising (fitting_all (with_term ts t) (with_shaped ts t (shaped_all ts (fitted ts c)) (shaped t f)) e)
+    canonical_from (with_term ts t) rising (fitting_all (with_term ts t) (with_shaped ts t (All-weaker Fitting Shaped shaped ts (fitted ts c)) (shaped t f)) e)
 
 -- coefficients that fit can be added
-summable : (i : Interval) → Fits i → Summable i
-summable i f = record { low = omega (arith, ints, f.low); order = f.order; high = omega (arith, ints, f.high) }
-
 pub joinable : (ts : List Term) (t : Term) → AllByRecursion Fitting ts → Fits t.coefficient → AllByRecursion (λ u. Summable u.coefficient × Summable t.coefficient) ts
-joinable [] t f h = tt
-joinable (u ∷ us) t f h = ((summable _ f.0.fit, summable _ h), joinable us t f.1 h)
+joinable ts t f h = All-weaker Fitting (λ u. Summable u.coefficient × Summable t.coefficient) (λ u g. (sized_weaken (lit≤ tt) g.fit, sized_weaken (lit≤ tt) h)) ts f

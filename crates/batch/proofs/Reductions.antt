@@ -9,6 +9,8 @@ use Rattle.interval.specs.Interval.{is_zero}
 use Rattle.polynomial.specs.declared.term.Term.{Term}
 use Rattle.polynomial.specs.Method.{FitTerm, Polynomial}
 use Rattle.polynomial.specs.Reach.{dropped, zero_term}
+use Rattle.polynomial.proofs.Coefficients.{dropped-length}
+use Rattle.polynomial.proofs.Standing.{all_both}
 use Rattle.table.specs.Order.{by_degree}
 use Rattle.table.specs.Slice.{over, packed}
 use Rattle.table.proofs.Ascents.{drops_ascend}
@@ -16,14 +18,11 @@ use Rattle.batch.specs.Drafts.{canonical}
 use Rattle.batch.proofs.Canonical.{Fitting, ascends, fitted, canonical_from}
 use Rattle.batch.proofs.Fronts.{Front}
 
-fewer : (ts : List Term) → length (dropped ts) ≤ length ts
-fewer ts = omega (arith, length-filter_both (λ t. not (is_zero t.coefficient)) (λ t. not (not (is_zero t.coefficient))) (λ t. refl) ts)
-
 pub dropped_front : (old new : List Term) (count n : ℕ) → length old ≡ 40 → count ≤ 40 → n ≡ length (dropped (take count old)) → new ≡ over (packed count zero_term (dropped (take count old))) old → Front (dropped (take count old)) new n
 dropped_front old new count n long few size after =
     let kept = dropped (take count old) in
     let blank = replicate (count - length kept) zero_term in
-    let less : length kept ≤ count = omega (arith, fewer (take count old), length-take count old) in
+    let less : length kept ≤ count = omega (arith, dropped-length (take count old), length-take count old) in
     let used : length (kept ++ blank) ≡ count = length-append kept blank ∙ omega (arith, less, length-replicate (count - length kept) zero_term) in
     record {
       few = omega (arith, less, size);
@@ -34,13 +33,10 @@ dropped_front old new count n long few size after =
 pub dropped-canonical : (ts : List Term) → canonical ts ≡ true → canonical (dropped ts) ≡ true
 dropped-canonical ts c = canonical_from (dropped ts) (drops_ascend by_degree (λ t. t.monomial) _ ts (ascends ts c)) (all_kept_by _ Fitting ts (fitted ts c))
 
-both : (ts : List Term) → AllByRecursion Fitting ts → AllByRecursion (λ t. not (is_zero t.coefficient) ≡ true) ts → AllByRecursion FitTerm ts
-both [] f s = tt
-both (t ∷ ts) f s = (record { six = f.0.six; fit = f.0.fit; some = search rules }, both ts f.1 s.1)
-
 pub dropped_polynomial : (ts : List Term) → length ts ≤ 40 → canonical ts ≡ true → Polynomial (dropped ts)
 dropped_polynomial ts few c = record {
-  few = omega (arith, few, fewer ts);
+  few = omega (arith, few, dropped-length ts);
   ascends = drops_ascend by_degree (λ t. t.monomial) _ ts (ascends ts c);
-  fit = both (dropped ts) (all_kept_by _ Fitting ts (fitted ts c)) (kept_by_passes _ ts);
+  fit = all_both Fitting (λ t. not (is_zero t.coefficient) ≡ true) FitTerm (λ t f s. record { six = f.six; fit = f.fit; some = search rules }) (dropped ts)
+      (all_kept_by _ Fitting ts (fitted ts c)) (kept_by_passes _ ts);
 }

@@ -13,6 +13,7 @@ use Rattle.polynomial.specs.declared.term.Term.{Term}
 use Rattle.polynomial.specs.Reach.{term, joins, dropped}
 use Rattle.polynomial.specs.Method.{MethodMeaning}
 use Rattle.polynomial.specs.Terms.{all_fit}
+use Rattle.polynomial.proofs.Coefficients.{dropped-length}
 use Rattle.taylor.specs.Model.{Model, tested}
 use Rattle.taylor.specs.Arithmetic.{constant, one, variable_model, sum}
 use Rattle.taylor.specs.Product.{Worked, worked, gathered, three_fit, product, product_pairs, times_worked, raised, power}
@@ -22,9 +23,6 @@ use Rattle.formula.specs.Work.{pairless}
 
 abbrev pub Few : Model → Type 0
 Few M = length M.terms ≤ 40
-
-dropped-length : (ts : List Term) → length (dropped ts) ≤ length ts
-dropped-length ts = omega (arith, length-filter (λ (t : Term). not (is_zero t.coefficient)) ts, count_by-le-length (λ (t : Term). not (is_zero t.coefficient)) ts)
 
 pub constant-few : (k : KindMeaning) (i : Interval) → Few (constant k i)
 unfolding constant

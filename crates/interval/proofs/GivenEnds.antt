@@ -124,7 +124,7 @@ module _ (S : ℕ) (x y : Float) (p : float_is_finite x ≡ true) (q : float_is_
 pub variable_sound : (S : ℕ) (x y : Float) (v : Variable) → Ok v ≡ variable_of S x y → Sound S v
 variable_sound S x y v e =
     let last = require (fits (hull_ends S x y)) EndDoesNotFit (Ok (variable S x y)) in
-    let a = require_ok (both_finite x y) EndNotFinite (require (uncrossed x y) EndsCrossed last) e in
+    let a = require_ok (both_finite x y) EndNotFinite (require (uncrossed x y) EndsCrossed last) (sym e) in
     let b = require_ok (uncrossed x y) EndsCrossed last a.1 in
     let c = require_ok (fits (hull_ends S x y)) EndDoesNotFit (Ok (variable S x y)) b.1 in
     let p : float_is_finite x ≡ true = grind (arith, nat_tests) in

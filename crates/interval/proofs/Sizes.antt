@@ -4,7 +4,7 @@ use borrow.Author.Differences.{up, down, product_is, ints}
 use Rattle.std.proofs.lemmas.Int.{clamps}
 use Rattle.std.specs.Int.{int_min, int_max}
 use Rattle.interval.specs.declared.marks.Interval.{Interval}
-use Rattle.interval.specs.Interval.{Bounded, Sized, Fits, fits, floor_div, ceil_div, plus, negated, even_reach, full_reach}
+use Rattle.interval.specs.Interval.{Bounded, Sized, Fits, fits, interval, zero_interval, floor_div, ceil_div, plus, negated, even_reach, full_reach}
 use Rattle.interval.specs.Kind.{IsScale}
 
 pub scale-above : {S : ℕ} → IsScale S → 0 < S
@@ -26,6 +26,12 @@ lower_bounded s = record { low = s.low; high = omega (arith, ints) }
 
 pub upper_bounded : {n : ℕ} {i : Interval} → Sized n i → Bounded n i.upper
 upper_bounded s = record { low = omega (arith, ints); high = s.high }
+
+pub sized_zero : (n : ℕ) → Sized n zero_interval
+sized_zero n = record { low = omega (arith, ints); order = omega (arith, ints); high = omega (arith, ints) }
+
+pub sized-point : {n : ℕ} {a : ℤ} → Bounded n a → Sized n (interval a a)
+sized-point b = record { low = b.low; order = omega (arith, ints); high = b.high }
 
 pub sized_weaken : {m n : ℕ} {i : Interval} → m ≤ n → Sized m i → Sized n i
 sized_weaken h s = record { low = omega (arith, ints); order = s.order; high = omega (arith, ints) }

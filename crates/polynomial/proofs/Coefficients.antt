@@ -1,17 +1,20 @@
--- The coefficient at a monomial by one search: the one at the place found, or [0, 0]. Assumes nothing.
-use Rattle.std.proofs.Common.{◌≡◌, ℕ, ◌<◌, Ok, Err, Result, List, [], length, get_or, sym, ap, ◌∙◌, arith}
+-- The coefficient at a monomial by one search: the one at the place found, or [0, 0]; and how many coefficients are not [0, 0].
+-- Assumes nothing.
+use Rattle.std.proofs.Common.{◌≡◌, ℕ, ◌<◌, ◌≤◌, not, Ok, Err, Result, List, [], length, get_or, sym, ap, ◌∙◌, arith}
 use Rattle.std.proofs.ByRecursion.{All-weaker}
 use Rattle.std.proofs.lemmas.List.{get_or_default}
+use Rattle.std.proofs.lemmas.List.Sums.{length-filter, count_by-le-length}
 use Rattle.std.proofs.lemmas.Int.{ints}
 use Rattle.std.proofs.lemmas.Bool.{cond-true, cond-false}
-use Rattle.interval.specs.Interval.{zero_interval, Fits}
+use Rattle.interval.specs.Interval.{limit, zero_interval, is_zero, Fits}
+use Rattle.interval.proofs.Sizes.{sized_zero}
 use Rattle.table.specs.Monomial.{Monomial}
 use Rattle.table.specs.Order.{by_degree}
 use Rattle.table.specs.Table.{sought}
 use Rattle.table.proofs.Readings.{reads}
 use Rattle.table.proofs.Searches.{there, missing}
 use Rattle.polynomial.specs.declared.term.Term.{Term}
-use Rattle.polynomial.specs.Reach.{term, coefficient_at}
+use Rattle.polynomial.specs.Reach.{term, coefficient_at, dropped}
 use Rattle.polynomial.specs.Method.{FitTerm, Polynomial}
 use Rattle.polynomial.proofs.Standing.{entry_all}
 
@@ -32,5 +35,11 @@ module _ (ts : List Term) (m : Monomial) where
 
   pub coefficient-fits : Polynomial ts → Fits (coefficient_at ts m)
   coefficient-fits p = entry_all by_degree (λ t. t.monomial) (λ t. Fits t.coefficient) (term m zero_interval) ts m
-      (record { low = omega (arith, ints); order = omega (arith, ints); high = omega (arith, ints) })
+      (sized_zero limit)
       (All-weaker FitTerm (λ t. Fits t.coefficient) (λ t f. f.fit) ts p.fit)
+
+-- no terms come when [0, 0] is dropped
+pub dropped-length : (ts : List Term) → length (dropped ts) ≤ length ts
+dropped-length ts =
+    let some = λ (t : Term). not (is_zero t.coefficient) in
+    omega (arith, length-filter some ts, count_by-le-length some ts)

@@ -5,6 +5,7 @@ use lib.Dec.{nleb→lt}
 use lib.IntN.{pos-ne-negsuc, zero-*ℤ}
 use borrow.Author.Differences.{ints}
 use Rattle.std.specs.Int.{int_min, int_max}
+use Rattle.std.proofs.lemmas.Bool.{leb-false}
 use Rattle.std.proofs.lemmas.Int.{by_lt_z, clamps}
 use Rattle.rational.proofs.Solver.{lit, ◌⊕◌, ◌⊗◌, ⊖◌, ◌⊝◌, ◌≈◌, ring1, ring2, ring4}
 use Rattle.rational.proofs.Whole.{ℤ_ring}
@@ -92,16 +93,13 @@ first_min x y = omega (arith, ints, clamps)
 first_max : (x y : ℤ) → x ≤ℤ int_max x y
 first_max x y = omega (arith, ints, clamps)
 
-turns_no : (m n : ℕ) → leb m n ≡ false → n < m
-turns_no m n e = nleb→lt m n (subst (λ (t : Bool). T (not t)) (sym e) tt)
-
 high_vertex : (j : ℕ) (b : ℤ) (t : Bool) → turns (negsuc j) b ≡ t → nat_abs b ≤ 2 * suc j → ceil_div (b *ℤ b) (4 * suc j) ≤ℤ hi_of t (negsuc j) b
 high_vertex j b true e h = first_max (vertex_up (negsuc j) b) (int_max (negsuc j -ℤ b) (negsuc j +ℤ b))
-high_vertex j b false e h = absurd (omega (arith, turns_no (nat_abs b) (2 * suc j) e))
+high_vertex j b false e h = absurd (omega (arith, leb-false (nat_abs b) (2 * suc j) e))
 
 low_vertex : (j : ℕ) (b : ℤ) (t : Bool) → turns (pos (suc j)) b ≡ t → nat_abs b ≤ 2 * suc j → ceil_div (b *ℤ b) (4 * suc j) ≤ℤ neg_ℤ (lo_of t (pos (suc j)) b)
 low_vertex j b true e h = let m = first_min (vertex_down (pos (suc j)) b) (int_min (pos (suc j) -ℤ b) (pos (suc j) +ℤ b)) in omega (arith, ints)
-low_vertex j b false e h = absurd (omega (arith, turns_no (nat_abs b) (2 * suc j) e))
+low_vertex j b false e h = absurd (omega (arith, leb-false (nat_abs b) (2 * suc j) e))
 
 high_case : (a b : ℤ) (k : ℕ) → a ≡ negsuc k → nat_abs b ≤ 2 * suc k → ceil_div (b *ℤ b) (4 * suc k) ≤ℤ hi_of (turns a b) a b
 high_case (pos n) b k e h = absurd (pos-ne-negsuc n k e)

@@ -1,4 +1,4 @@
--- The reach of an interval under a monomial holds its values, times the monomial's, at every unit point.
+-- The reach of an interval under a monomial holds its values, times the monomial's, at every unit point, and is as small.
 -- Assumes nothing.
 use Rattle.std.proofs.Common.{◌≡◌, ℕ, ◌+◌, ◌*◌, ◌/◌, ◌%◌, true, cond, eqb, List, [], ◌∷◌, pos, negsuc, sym, ap, ◌∙◌, subst, ap₂, arith}
 use borrow.Author.Differences.{ints}
@@ -10,9 +10,10 @@ use Rattle.rational.proofs.Rational.{ℚ, ⟦◌⟧, ◌*ℚ◌, of, of_is, ℚ_
 use Rattle.rational.proofs.Order.{≤ℚ_refl, of_mono}
 use Rattle.rational.proofs.Powers.{Unital, Partial, pow, pow_is, unital_mul, unital_pow, partial_mul, pow_even_partial}
 use Rattle.interval.specs.declared.marks.Interval.{Interval}
-use Rattle.interval.specs.Interval.{◌within◌, interval, even_reach, full_reach}
+use Rattle.interval.specs.Interval.{◌within◌, interval, even_reach, full_reach, Sized}
 use Rattle.interval.proofs.Enclosure.{◌inside◌, inside_of}
 use Rattle.interval.proofs.Reaching.{reach-even, reach-full}
+use Rattle.interval.proofs.Sizes.{sized-even, sized-full}
 use Rattle.table.specs.Monomial.{Monomial, degree, even}
 use Rattle.polynomial.specs.Reach.{reach}
 use Rattle.polynomial.specs.Value.{monomial_value, Units}
@@ -66,3 +67,9 @@ reach-holds us U m {I} {v} V =
     cond_both (eqb (degree m) 0) I (cond (even m) (even_reach I) (full_reach I)) (λ z. v *ℚ value us m inside z)
     (λ t. rw (value_none us m (eqb-true (degree m) 0 t), ring1 ℚ_ring (λ v. v ⊗ lit (pos 1) ≈ v) tt v) V)
     (λ _. cond_both (even m) (even_reach I) (full_reach I) (λ z. v *ℚ value us m inside z) (λ t. reach-even V (value_partial us U m t)) (λ _. reach-full V (value_unital us U m)))
+
+-- a reach is as small as the interval
+pub sized-reach : (m : Monomial) {n : ℕ} {i : Interval} → Sized n i → Sized n (reach m i)
+sized-reach m {n} {i} s =
+    cond_both (eqb (degree m) 0) i (cond (even m) (even_reach i) (full_reach i)) (Sized n) (λ _. s)
+    (λ _. cond_both (even m) (even_reach i) (full_reach i) (Sized n) (λ _. sized-even s) (λ _. sized-full s))

@@ -9,6 +9,11 @@ use Rattle.table.proofs.Ascents.{before_all}
 use Rattle.rational.proofs.Solver.{Ring, lit, ◌⊕◌, ◌≈◌, ring1}
 use Rattle.polynomial.proofs.Totals.{total}
 
+-- what two facts of each element give together
+pub all_both : {X : Type 0} (P Q R : X → Type 0) → ((x : X) → P x → Q x → R x) → (xs : List X) → AllByRecursion P xs → AllByRecursion Q xs → AllByRecursion R xs
+all_both P Q R f [] A B = tt
+all_both P Q R f (x ∷ xs) A B = (f x A.0 B.0, all_both P Q R f xs A.1 B.1)
+
 module _ {E K : Type 0} (o : Order K) (key : E → K) where
   -- what holds of all entries, and of d, holds of it
   pub entry_all : (P : E → Type 0) (d : E) (es : List E) (k : K) → P d → AllByRecursion P es → P (entry o key d es k)

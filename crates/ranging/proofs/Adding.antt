@@ -12,6 +12,7 @@ use Rattle.polynomial.specs.declared.term.Term.{Term}
 use Rattle.polynomial.specs.Reach.{reach}
 use Rattle.polynomial.specs.Method.{FitTerm, Polynomial, plain}
 use Rattle.polynomial.proofs.Coefficients.{unread}
+use Rattle.polynomial.proofs.Reaches.{sized-reach}
 use Rattle.ranging.specs.Addable.{Addable}
 
 plus-assoc : (i j k : Interval) → plus (plus i j) k ≡ plus i (plus j k)
@@ -50,16 +51,11 @@ plain_cons : (t : Term) (ts : List Term) → plain (t ∷ ts) ≡ plus (reach t.
 unfolding plain
 plain_cons t ts = refl
 
-pub reach-sized : {n : ℕ} (m : Monomial) (i : Interval) → Sized n i → Sized n (reach m i)
-reach-sized m i f =
-    cond_both (eqb (degree m) 0) i (cond (even m) (even_reach i) (full_reach i)) (Sized _) (λ _. f)
-    (λ _. cond_both (even m) (even_reach i) (full_reach i) (Sized _) (λ _. sized-even f) (λ _. sized-full f))
-
 pub term-sized : (ts : List Term) (i : ℕ) → i < length ts → Addable ts → Sized (2 ^ 48) (get_or ts i unread).coefficient
 term-sized ts i h a = All-get_or (λ t. Sized (2 ^ 48) t.coefficient) ts i unread h a.sized
 
 pub plain-sized : (ts : List Term) (i : ℕ) (r : Interval) → i < length ts → Addable ts → r ≡ reach (get_or ts i unread).monomial (get_or ts i unread).coefficient → Sized (2 ^ 48) r
-plain-sized ts i r h a e = subst (Sized (2 ^ 48)) (sym e) (reach-sized (get_or ts i unread).monomial (get_or ts i unread).coefficient (term-sized ts i h a))
+plain-sized ts i r h a e = subst (Sized (2 ^ 48)) (sym e) (sized-reach (get_or ts i unread).monomial (term-sized ts i h a))
 
 pub plain_more : (ts : List Term) (i : ℕ) (sum r : Interval) → i < length ts → r ≡ reach (get_or ts i unread).monomial (get_or ts i unread).coefficient → plus sum (plain (drop i ts)) ≡ plain ts → plus (plus sum r) (plain (drop (i + 1) ts)) ≡ plain ts
 plain_more = added (λ t. reach t.monomial t.coefficient) plain plain_none plain_cons

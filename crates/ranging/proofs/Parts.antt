@@ -6,28 +6,22 @@ use Rattle.std.proofs.lemmas.Bool.{cond_both}
 use Rattle.interval.specs.declared.marks.Interval.{Interval}
 use Rattle.interval.specs.Interval.{limit, interval, zero_interval, plus, Sized, Bounded, Fits}
 use Rattle.interval.proofs.Enclosure.{inside_ordered}
-use Rattle.interval.proofs.Sizes.{sized_weaken, sized-plus, sized-even, sized-full, lower_bounded}
+use Rattle.interval.proofs.Sizes.{sized_zero, sized-point, sized_weaken, sized-plus, sized-even, sized-full, lower_bounded}
 use Rattle.table.specs.Monomial.{degree, even, root}
 use Rattle.polynomial.specs.declared.term.Term.{Term}
 use Rattle.polynomial.specs.Reach.{reach, coefficient_at}
 use Rattle.polynomial.specs.Method.{FitTerm, Polynomial}
 use Rattle.polynomial.specs.Quadratic.{joint, paired, part, parts, quadratic}
-use Rattle.polynomial.proofs.Reaches.{one_unital}
+use Rattle.polynomial.proofs.Reaches.{one_unital, sized-reach}
 use Rattle.polynomial.proofs.Coefficients.{unread, coefficient-fits}
 use Rattle.polynomial.proofs.Joint.{inside-joint, joint_narrows}
-use Rattle.ranging.proofs.Adding.{added, all_added, reach-sized}
-
-zero_sized : (n : ℕ) → Sized n zero_interval
-zero_sized n = record { low = omega (arith, ints); order = omega (arith, ints); high = omega (arith, ints) }
-
-point-sized : {a : ℤ} → Bounded limit a → Sized limit (interval a a)
-point-sized b = record { low = b.low; order = omega (arith, ints); high = b.high }
+use Rattle.ranging.proofs.Adding.{added, all_added}
 
 -- no wider than the two reaches
 joint-sized : (a b : ℤ) → Bounded limit a → Bounded limit b → Sized (2 ^ 48) (joint a b)
 joint-sized a b f g =
     let w = joint_narrows a b in
-    let s = sized-plus (sized-even (point-sized f)) (sized-full (point-sized g)) in
+    let s = sized-plus (sized-even (sized-point f)) (sized-full (sized-point g)) in
     let o = inside_ordered (inside-joint a b one_unital) in
     record { low = omega (arith, ints); order = o; high = omega (arith, ints) }
 
@@ -35,9 +29,9 @@ pub part-sized : (ts : List Term) (t : Term) → Polynomial ts → Fits t.coeffi
 part-sized ts t p f =
     let m = t.monomial in
     let plain-part = reach m t.coefficient in
-    let small : Sized (2 ^ 48) plain-part = reach-sized m t.coefficient (sized_weaken (lit≤ tt) f) in
+    let small : Sized (2 ^ 48) plain-part = sized-reach m (sized_weaken (lit≤ tt) f) in
     cond_both (eqb (degree m) 1) _ _ (Sized (2 ^ 48))
-    (λ _. cond_both (paired ts m) zero_interval plain-part (Sized (2 ^ 48)) (λ _. zero_sized (2 ^ 48)) (λ _. small))
+    (λ _. cond_both (paired ts m) zero_interval plain-part (Sized (2 ^ 48)) (λ _. sized_zero (2 ^ 48)) (λ _. small))
     (λ _. cond_both (eqb (degree m) 2 && (even m && paired ts (root m))) (joint t.coefficient.lower (coefficient_at ts (root m)).lower) plain-part (Sized (2 ^ 48))
     (λ _. joint-sized t.coefficient.lower (coefficient_at ts (root m)).lower (lower_bounded f) (lower_bounded (coefficient-fits ts (root m) p))) (λ _. small))
 

@@ -47,8 +47,8 @@ module _ (k : KindMeaning) (order : ℕ) where
   monomials_gathered ps qs e = all_counted ps zero_model ∙ ap (fold counted []) e ∙ sym (all_counted qs zero_model)
 
   -- no term goes
-  step_grows : (M : Model) (t : Term) → length M.terms ≤ length (gather k order M t).terms
-  step_grows M t = go (kept order t)
+  pub one_grows : (M : Model) (t : Term) → length M.terms ≤ length (gather k order M t).terms
+  one_grows M t = go (kept order t)
     where
       go : (b : Bool) → length M.terms ≤ length (cond b (keep k M t) (cut M t)).terms
       go true = entered_grows by_degree (λ u. u.monomial) joined M.terms (term t.monomial (k.split t.coefficient).0)
@@ -56,7 +56,7 @@ module _ (k : KindMeaning) (order : ℕ) where
 
   gathered_grows : (ts : List Term) (M : Model) → length M.terms ≤ length (fold (gather k order) M ts).terms
   gathered_grows [] M = omega arith
-  gathered_grows (t ∷ ts) M = omega (arith, step_grows M t, gathered_grows ts (gather k order M t))
+  gathered_grows (t ∷ ts) M = omega (arith, one_grows M t, gathered_grows ts (gather k order M t))
 
   front_gathered : (ts : List Term) (i : ℕ) (M : Model) → length (fold (gather k order) M (take i ts)).terms
       ≤ length (fold (gather k order) M ts).terms

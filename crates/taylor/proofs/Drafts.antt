@@ -11,20 +11,19 @@ use Rattle.interval.proofs.Sizes.{sized_weaken, sized-plus, fits-sized}
 use Rattle.table.specs.Monomial.{degree}
 use Rattle.table.specs.Order.{by_degree}
 use Rattle.table.specs.Table.{entered}
+use Rattle.table.proofs.Ascents.{entered-ascends, drops_ascend}
 use Rattle.table.proofs.Monomials.{length-multiplied}
 use Rattle.table.proofs.Growth.{all_entered}
 use Rattle.polynomial.specs.declared.term.Term.{Term}
 use Rattle.polynomial.specs.Reach.{term, joined, joins, dropped}
 use Rattle.polynomial.specs.Terms.{all_fit}
+use Rattle.polynomial.proofs.Coefficients.{dropped-length}
+use Rattle.polynomial.proofs.Reaches.{sized-reach}
+use Rattle.polynomial.proofs.Standing.{all_both}
 use Rattle.taylor.specs.Model.{Model, model}
 use Rattle.taylor.specs.Form.{NormalTerm, Formed, DraftTerm, Draft, Gathering}
 use Rattle.taylor.specs.Product.{pair, row, pairs, kept, keep, cut, gather}
-use Rattle.taylor.proofs.Tables.{entered-ascends, kept-ascends, length-kept}
-use Rattle.taylor.proofs.Sizes.{sized-reach, times-order}
-
-pub all_both : {X : Type 0} (P Q R : X → Type 0) → ((x : X) → P x → Q x → R x) → (xs : List X) → AllByRecursion P xs → AllByRecursion Q xs → AllByRecursion R xs
-all_both P Q R f [] A B = tt
-all_both P Q R f (x ∷ xs) A B = (f x A.0 B.0, all_both P Q R f xs A.1 B.1)
+use Rattle.taylor.proofs.Sizes.{times-order}
 
 -- six exponents each
 abbrev pub Six : List Term → Type 0
@@ -39,7 +38,7 @@ draft_more {d} {m} n {ts} h D = record { ascends = D.ascends; each = All-weaker 
 
 pub draft-entered : {d a b : ℕ} (t : Term) (ts : List Term) → Draft d a ts → DraftTerm d b t → Draft d (a + b) (entered by_degree (λ u. u.monomial) joined ts t)
 draft-entered {d} {a} {b} t ts D s = record {
-  ascends = entered-ascends by_degree (λ u. u.monomial) joined ts t (λ x. refl) D.ascends;
+  ascends = entered-ascends by_degree (λ u. u.monomial) joined (λ x e. refl) ts t D.ascends;
   each = all_entered by_degree (λ u. u.monomial) joined (DraftTerm d a) (DraftTerm d (a + b)) t
       (λ x. draft_term_more (a + b) (omega arith)) (draft_term_more (a + b) (omega arith) s)
       (λ x r. record { six = r.six; low = r.low; sized = sized-plus r.sized s.sized }) ts D.each;
@@ -134,8 +133,8 @@ draft_formed {d} {n} ts r D few s =
     let each = all_kept_by test (DraftTerm d n) ts D.each in
     record {
       normal = record {
-        few = omega (arith, length-kept by_degree (λ u. u.monomial) test ts);
-        ascends = kept-ascends by_degree (λ u. u.monomial) test ts D.ascends;
+        few = omega (arith, dropped-length ts);
+        ascends = drops_ascend by_degree (λ u. u.monomial) test ts D.ascends;
         each = all_both (DraftTerm d n) (λ t. test t ≡ true) NormalTerm (λ t a b. record { six = a.six; order = a.sized.order; some = not-true (is_zero t.coefficient) b }) (dropped ts) each (kept_by_passes test ts);
         order = s.order;
       };

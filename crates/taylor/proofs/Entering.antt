@@ -15,7 +15,7 @@ use Rattle.taylor.specs.declared.model.ModelRecord.{ModelRecord}
 use Rattle.taylor.specs.Model.{unpacked}
 use Rattle.taylor.specs.Form.{InPlaces}
 use Rattle.taylor.specs.Gathering.{Open}
-use Rattle.taylor.proofs.Sizes.{sized-reach}
+use Rattle.polynomial.proofs.Reaches.{sized-reach}
 use Rattle.taylor.proofs.Summing.{term-entered}
 
 module _ (M : ModelRecord) (o : Open M) where

@@ -9,7 +9,7 @@ use Rattle.interval.specs.declared.marks.Interval.{Interval}
 use Rattle.interval.specs.declared.variable.Variable.{Variable}
 use Rattle.interval.specs.Interval.{limit, Bounded, Sized, Fits, interval, zero_interval, is_zero, plus, negated}
 use Rattle.interval.specs.Kind.{KindMeaning, twice_limit}
-use Rattle.interval.proofs.Sizes.{sized_weaken, sized-plus, sized-negated, fits-sized}
+use Rattle.interval.proofs.Sizes.{sized_zero, sized-point, sized_weaken, sized-plus, sized-negated, fits-sized}
 use Rattle.table.specs.Monomial.{Monomial, constant_monomial, linear, degree}
 use Rattle.table.specs.Order.{by_degree}
 use Rattle.table.specs.Table.{Next, Ascending}
@@ -22,8 +22,9 @@ use Rattle.taylor.specs.Arithmetic.{constant, variable_model, opposite, negated_
 use Rattle.taylor.specs.Product.{pairs, gathered, product}
 use Rattle.taylor.specs.Keeping.{room, JoinsKeep, GatheringKeeps}
 use Rattle.taylor.proofs.Made.{sum_made, product_made}
-use Rattle.taylor.proofs.Sizes.{sized_zero, scale-above, times-order}
-use Rattle.taylor.proofs.Drafts.{Six, all_both, draft_more, draft-joins, length_pairs, pairs-six, pairs_ordered, all_fit_in, gather_all, draft_formed}
+use Rattle.polynomial.proofs.Standing.{all_both}
+use Rattle.taylor.proofs.Sizes.{scale-above, times-order}
+use Rattle.taylor.proofs.Drafts.{Six, draft_more, draft-joins, length_pairs, pairs-six, pairs_ordered, all_fit_in, gather_all, draft_formed}
 
 -- ---- constants and variables
 pub constant_formed : (k : KindMeaning) (i : Interval) → Fits i → Formed 0 twice_limit (constant k i)
@@ -42,15 +43,12 @@ after-constant (suc (suc (suc (suc zero)))) h = (refl, refl, omega arith)
 after-constant (suc (suc (suc (suc (suc zero))))) h = (refl, refl, omega arith)
 after-constant (suc (suc (suc (suc (suc (suc n)))))) h = absurd (omega arith)
 
-point-sized : {b : ℕ} {z : ℤ} → Bounded b z → Sized b (interval z z)
-point-sized h = record { low = h.low; order = omega (arith, ints); high = h.high }
-
 pub variable_formed : (n b : ℕ) (v : Variable) → n < 6 → Bounded b v.centre → Bounded b v.half → Formed 1 b (variable_model n v)
 unfolding variable_model
 variable_formed n b v h c w =
     let a = after-constant n h in
     draft_formed (term constant_monomial (interval v.centre v.centre) ∷ (term (linear n) (interval v.half v.half) ∷ [])) zero_interval
-    (record { ascends = (a.0, (tt, tt)); each = (record { six = refl; low = omega arith; sized = point-sized c }, (record { six = a.1; low = a.2; sized = point-sized w }, tt)) }) (omega arith) (sized_zero b)
+    (record { ascends = (a.0, (tt, tt)); each = (record { six = refl; low = omega arith; sized = sized-point c }, (record { six = a.1; low = a.2; sized = sized-point w }, tt)) }) (omega arith) (sized_zero b)
 
 -- ---- sums
 opposite_next : (m : Monomial) (ts : List Term) → Next by_degree (λ (t : Term). t.monomial) m ts → Next by_degree (λ (t : Term). t.monomial) m (map opposite ts)

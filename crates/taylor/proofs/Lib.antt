@@ -1,6 +1,5 @@
 pub mod Results
 pub mod Made
-pub mod Tables
 pub mod Sizes
 pub mod Drafts
 pub mod Bounds

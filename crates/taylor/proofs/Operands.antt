@@ -21,7 +21,7 @@ use Rattle.taylor.specs.Form.{greatest_order}
 use Rattle.taylor.specs.Record.{Ready}
 use Rattle.taylor.specs.Gathering.{Factor}
 use Rattle.taylor.proofs.Sizes.{scale-above, times-order}
-use Rattle.taylor.proofs.Drafts.{all_both}
+use Rattle.polynomial.proofs.Standing.{all_both}
 use Rattle.taylor.proofs.Packed.{Places}
 use Rattle.taylor.proofs.Tests.{tested_polynomial}
 

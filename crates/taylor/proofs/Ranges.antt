@@ -5,11 +5,11 @@ use Rattle.std.proofs.ByRecursion.{All-weaker}
 use Rattle.std.proofs.lemmas.Int.{ints}
 use Rattle.interval.specs.declared.marks.Interval.{Interval}
 use Rattle.interval.specs.Interval.{limit, Sized, Summable}
-use Rattle.interval.proofs.Sizes.{sized_weaken, sized-plus}
+use Rattle.interval.proofs.Sizes.{sized_zero, sized_weaken, sized-plus}
 use Rattle.polynomial.specs.declared.term.Term.{Term}
 use Rattle.polynomial.specs.Terms.{all_fit}
 use Rattle.polynomial.specs.Method.{MethodMeaning, Polynomial, FitTerm, plain}
-use Rattle.ranging.proofs.Adding.{reach-sized}
+use Rattle.polynomial.proofs.Reaches.{sized-reach}
 use Rattle.taylor.specs.declared.model.ModelRecord.{ModelRecord}
 use Rattle.taylor.specs.Model.{unpacked}
 use Rattle.taylor.specs.Keeping.{room}
@@ -20,9 +20,9 @@ use Rattle.taylor.proofs.Tests.{normal_polynomial, coefficients-fit}
 -- the plain range has at most so many marks for each term
 plain-sized : (n : ℕ) (ts : List Term) → AllByRecursion (λ t. Sized n t.coefficient) ts → Sized (length ts * n) (plain ts)
 unfolding plain
-plain-sized n [] A = record { low = omega (arith, ints); order = omega (arith, ints); high = omega (arith, ints) }
+plain-sized n [] A = sized_zero (0 * n)
 plain-sized n (t ∷ ts) A =
-    sized_weaken {m = n + length ts * n} (omega (arith, suc-mul (length ts) n)) (sized-plus (reach-sized t.monomial t.coefficient A.0) (plain-sized n ts A.1))
+    sized_weaken {m = n + length ts * n} (omega (arith, suc-mul (length ts) n)) (sized-plus (sized-reach t.monomial A.0) (plain-sized n ts A.1))
 
 -- and every method's range lies within it
 pub range-summable : (m : MethodMeaning) (ts : List Term) → Polynomial ts → Summable (m.range ts)

@@ -1,30 +1,15 @@
 -- What is known where a result was refused, and where it was not. Assumes nothing.
-use Rattle.std.proofs.Common.{◌≡◌, Bool, true, false, Ok, Err, Result, IsErrAnd, sym, refl, ap, subst}
-use Rattle.interval.specs.Reason.{and_then, require}
-
-abbrev Accepted : {A E : Type 0} → Result A E → Type 0
-Accepted (Ok x) = Unit {0}
-Accepted (Err e) = ⊥
+use Rattle.std.proofs.Common.{◌≡◌, Bool, true, Ok, Err, Result, IsErrAnd, refl, ap}
+use Rattle.interval.specs.Reason.{require}
+pub use Rattle.interval.proofs.Passing.{not_refused, and_then_ok, require_ok}
 
 pub same-value : {A E : Type 0} {x y : A} → ◌≡◌ {A = Result A E} (Ok x) (Ok y) → x ≡ y
 same-value e = cc
-
--- a refusal is no answer
-pub not_refused : {A E : Type 0} {x : A} {e : E} → ◌≡◌ {A = Result A E} (Err e) (Ok x) → ⊥
-not_refused q = subst Accepted (sym q) tt
 
 -- what ? passes on is the refusal that it met
 pub passed_on : {A E : Type 0} (r : Result A E) {e : E} → IsErrAnd r (λ d. d ≡ e) → r ≡ Err e
 passed_on (Ok x) h = absurd h
 passed_on (Err d) h = ap Err h
-
-pub and_then_ok : {A B E : Type 0} (r : Result A E) (f : A → Result B E) {y : B} → and_then r f ≡ Ok y → (x : A) × (r ≡ Ok x) × (f x ≡ Ok y)
-and_then_ok (Ok x) f q = (x, refl, q)
-and_then_ok (Err e) f q = absurd (not_refused q)
-
-pub require_ok : {A E : Type 0} (b : Bool) (e : E) (r : Result A E) {y : A} → require b e r ≡ Ok y → (b ≡ true) × (r ≡ Ok y)
-require_ok true e r q = (refl, q)
-require_ok false e r q = absurd (not_refused q)
 
 pub require_yes : {A E : Type 0} (b : Bool) (e : E) (r : Result A E) → b ≡ true → require b e r ≡ r
 require_yes b e r t = rw t refl

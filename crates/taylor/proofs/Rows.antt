@@ -1,6 +1,7 @@
 -- Pairs that come row by row: what is left of them brings the tally to the same end. Assumes nothing.
 use Rattle.std.proofs.Common.{◌≡◌, ℕ, ◌+◌, ◌*◌, ◌<◌, ◌≤◌, Bool, true, false, cond, leb, List, [], ◌∷◌, ◌++◌, length, get_or, drop, ◌≤ℤ◌, Ok, Err, fold, sym, refl, ap, ◌∙◌, subst, mul-le-mul_right, add-mul, add-one-le, arith}
 use Rattle.std.proofs.lemmas.List.{at_drop_more, at_drop_all}
+use Rattle.std.proofs.lemmas.List.Sums.{fold-append}
 use Rattle.std.proofs.lemmas.Bool.{leb-false, le-leb, lt-leb}
 use Rattle.interval.specs.declared.reason.Reason.{Reason}
 use Rattle.interval.specs.declared.reason.Reason.TheVariants.{TooManyMonomials}
@@ -15,26 +16,15 @@ use Rattle.taylor.specs.declared.tally.TallyRecord.{TallyRecord}
 use Rattle.taylor.specs.Model.{Model, unpacked}
 use Rattle.taylor.specs.Product.{pair, row, pairs, kept, keep, cut, gather}
 use Rattle.taylor.specs.Gathering.{Tally, held, tallied, tally, roomy, tally_of, Took}
+use Rattle.taylor.proofs.Counting.{one_grows}
 use Rattle.taylor.proofs.Results.{not_refused, require_yes}
 use Rattle.taylor.proofs.Sizes.{scale-above, times-order}
 
--- one list after the other
-folded_append : {X Y : Type 0} (f : Y → X → Y) (a : Y) (xs ys : List X) → fold f a (xs ++ ys) ≡ fold f (fold f a xs) ys
-folded_append f a [] ys = refl
-folded_append f a (x ∷ xs) ys = folded_append f (f a x) xs ys
-
 module _ (k : KindMeaning) (order : ℕ) where
-  one_grows : (M : Model) (t : Term) → length M.terms ≤ length (gather k order M t).terms
-  one_grows M t = go (kept order t)
-    where
-      go : (b : Bool) → length M.terms ≤ length (cond b (keep k M t) (cut M t)).terms
-      go true = entered_grows by_degree (λ u. u.monomial) joined M.terms (term t.monomial (k.split t.coefficient).0)
-      go false = omega arith
-
   -- no monomial goes
   pub tally_grows : (y : Tally) (ts : List Term) → length y.model.terms ≤ length (tally k order y ts).model.terms
   tally_grows y [] = omega arith
-  tally_grows y (t ∷ ts) = omega (arith, one_grows y.model (held t), tally_grows (tallied k order y t) ts)
+  tally_grows y (t ∷ ts) = omega (arith, one_grows k order y.model (held t), tally_grows (tallied k order y t) ts)
 
   -- so a refusal on the way is one at the end
   pub refused_early : (y G : Tally) (rest : List Term) (e : Reason) → Err e ≡ roomy y.model → tally k order y rest ≡ G → Err e ≡ roomy G.model
@@ -87,7 +77,7 @@ module _ (k : KindMeaning) (order : ℕ) where
     module _ (h : i < length ps) where
       rows_more : (y : Tally) → tally k order (tally k order y (row S (get_or ps i unread) qs)) (pairs S (drop (i + 1) ps) qs) ≡ tally k order y (pairs S (drop i ps) qs)
       unfolding pairs
-      rows_more y = sym (at_drop_more (λ us. tally k order y (pairs S us qs)) ps i unread h ∙ folded_append (tallied k order) y (row S (get_or ps i unread) qs) (pairs S (drop (i + 1) ps) qs))
+      rows_more y = sym (at_drop_more (λ us. tally k order y (pairs S us qs)) ps i unread h ∙ fold-append (tallied k order) y (row S (get_or ps i unread) qs) (pairs S (drop (i + 1) ps) qs))
 
       pub rows_refused : (y G : Tally) (e : Reason) → Err e ≡ roomy (tally k order y (row S (get_or ps i unread) qs)).model → tally k order y (pairs S (drop i ps) qs) ≡ G → Err e ≡ roomy G.model
       rows_refused y G e r q = refused_early (tally k order y (row S (get_or ps i unread) qs)) G (pairs S (drop (i + 1) ps) qs) e r (rows_more y ∙ q)

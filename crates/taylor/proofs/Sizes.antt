@@ -1,24 +1,13 @@
--- The ends of reaches and products stay in order and in bounds. Assumes nothing.
+-- The ends of products are in order, and 1 in marks fits. Assumes nothing.
 use Rattle.std.proofs.Common.{ℕ, ◌<◌, ◌≤◌, Bool, true, false, cond, eqb, pos, ◌≤ℤ◌, arith, pow_pos, pow_mono}
 use Rattle.std.proofs.lemmas.Int.{ints, clamps}
 use Rattle.interval.specs.declared.marks.Interval.{Interval}
 use Rattle.interval.specs.Interval.{Sized, Fits, interval, zero_interval, least, greatest, times, even_reach, full_reach}
 use Rattle.interval.specs.Kind.{KindMeaning}
 use Rattle.interval.proofs.Rounding.{floor_le_ceil}
-use Rattle.interval.proofs.Sizes.{sized-even, sized-full}
+use Rattle.interval.proofs.Sizes.{scale-above as above}
 use Rattle.table.specs.Monomial.{Monomial, degree, even}
 use Rattle.polynomial.specs.Reach.{reach}
-
-pub sized_zero : (n : ℕ) → Sized n zero_interval
-sized_zero n = record { low = omega (arith, ints); order = omega (arith, ints); high = omega (arith, ints) }
-
-pub sized-reach : (m : Monomial) {n : ℕ} {i : Interval} → Sized n i → Sized n (reach m i)
-sized-reach m {n} {i} s = go (eqb (degree m) 0) (even m)
-  where
-    go : (a b : Bool) → Sized n (cond a i (cond b (even_reach i) (full_reach i)))
-    go true b = s
-    go false true = sized-even s
-    go false false = sized-full s
 
 -- the least of the four products is not above the greatest
 pub times-order : (S : ℕ) → 0 < S → (i j : Interval) → (times S i j).lower ≤ℤ (times S i j).upper
@@ -27,7 +16,7 @@ times-order S above i j = floor_le_ceil (least i j) (greatest i j) S above (omeg
 
 -- ---- the scale
 pub scale-above : (k : KindMeaning) → 0 < k.scale
-scale-above k = let s = k.scales in rw s.2 (pow_pos s.0)
+scale-above k = above k.scales
 
 pub one-fits : (k : KindMeaning) → Fits (interval (pos k.scale) (pos k.scale))
 one-fits k =

@@ -76,16 +76,13 @@ pub record Adding (more total : List Term) (i : ℕ) (terms : List Term) (count 
   pub few : length more ≤ 40
   pub each : AllByRecursion (DraftTerm 8 limit) more
 
-summable : {n : ℕ} {i : Interval} → n ≤ 2 ^ 62 - 1 → Sized n i → Summable i
-summable h s = sized_weaken h s
-
 module _ (more total : List Term) (i : ℕ) (terms : List Term) (count : ℕ) (A : Adding more total i terms count) where
   -- the term that comes can be joined to any other
   pub joinable : (d : Term) → i < length more → AllByRecursion (λ u. Summable u.coefficient × Summable (get_or more i d).coefficient) (take count terms)
   joinable d h =
       let few = A.few in
-      let new : Summable (get_or more i d).coefficient = summable (omega arith) (All-get_or (DraftTerm 8 limit) more i d h A.each).sized in
-      All-weaker (DraftTerm 8 (limit + i * limit)) (λ u. Summable u.coefficient × Summable (get_or more i d).coefficient) (λ u D. (summable (omega arith) D.sized, new)) (take count terms) A.draft.each
+      let new : Summable (get_or more i d).coefficient = sized_weaken (omega arith) (All-get_or (DraftTerm 8 limit) more i d h A.each).sized in
+      All-weaker (DraftTerm 8 (limit + i * limit)) (λ u. Summable u.coefficient × Summable (get_or more i d).coefficient) (λ u D. (sized_weaken (omega arith) D.sized, new)) (take count terms) A.draft.each
 
   one_more : (d : Term) → i < length more → joins (with_term (take count terms) (get_or more i d)) (drop (i + 1) more) ≡ total
   one_more d h = sym (at_drop_more (joins (take count terms)) more i d h) ∙ A.rest

@@ -7,7 +7,7 @@ use Rattle.interval.specs.declared.marks.Interval.{Interval}
 use Rattle.interval.specs.declared.reason.Reason.{Reason}
 use Rattle.interval.specs.Interval.{limit, Sized, Fits, fits, zero_interval}
 use Rattle.interval.specs.Kind.{KindMeaning, twice_limit}
-use Rattle.interval.proofs.Sizes.{sized_weaken, fits-sized}
+use Rattle.interval.proofs.Sizes.{sized_zero, sized_weaken, fits-sized}
 use Rattle.table.specs.Monomial.{degree}
 use Rattle.polynomial.specs.declared.term.Term.{Term}
 use Rattle.taylor.specs.declared.model.ModelRecord.{ModelRecord}
@@ -15,7 +15,6 @@ use Rattle.taylor.specs.Model.{unpacked}
 use Rattle.taylor.specs.Form.{greatest_order, InPlaces, Tallied, DraftTerm, Gathering}
 use Rattle.taylor.specs.Product.{keep, cut}
 use Rattle.taylor.specs.Gathering.{held_hull, held, Open}
-use Rattle.taylor.proofs.Sizes.{sized_zero}
 use Rattle.taylor.proofs.Drafts.{draft_more, keep-one, cut-one}
 use Rattle.taylor.proofs.Operands.{ascending-one}
 

@@ -19,7 +19,8 @@ use Rattle.taylor.specs.Product.{Worked, worked, times_worked, raised, power}
 use Rattle.taylor.proofs.Results.{same-value, and_then_ok, require_yes}
 use Rattle.taylor.proofs.Made.{test_made, alone_made, times_made}
 use Rattle.taylor.proofs.Sizes.{one-fits}
-use Rattle.taylor.proofs.Drafts.{Ordered, all_both, all_fit_in}
+use Rattle.polynomial.proofs.Standing.{all_both}
+use Rattle.taylor.proofs.Drafts.{Ordered, all_fit_in}
 use Rattle.taylor.proofs.Bounds.{range-order}
 use Rattle.taylor.proofs.Forms.{constant_formed, product_formed}
 
