@@ -1,6 +1,7 @@
 -- What a slice of 40 places holds once a term has entered the terms in its front.
 use Rattle.std.proofs.Common.{◌≡◌, ℕ, ◌-◌, ◌≤◌, Bool, true, false, cond, leb, List, length, take, drop, is_some, Some, Ok, Err, Option, sym, ap, ◌∙◌, arith, length-append, length-drop, length-take, le-leb, leb-true}
 use native.Mathlib.Nat.{sub-zero}
+use Rattle.std.proofs.lemmas.Option.{cond_some}
 use lib.Seq.{take-append_seam}
 use Rattle.interval.specs.declared.reason.Reason.TheVariants.{DoesNotFit}
 use Rattle.polynomial.specs.declared.term.Term.{Term}
@@ -9,7 +10,6 @@ use Rattle.polynomial.specs.Reach.{with_term}
 use Rattle.polynomial.specs.Terms.{all_fit, new_count}
 use Rattle.batch.specs.Drafts.{canonical, admitted}
 use Rattle.batch.proofs.Canonical.{Fitting, with_term_canonical}
-use Rattle.batch.proofs.Picks.{picked}
 
 -- the first n places of a slice of 40 hold E
 pub record Front (E slice : List Term) (n : ℕ) : Type 0 where
@@ -19,13 +19,13 @@ pub record Front (E slice : List Term) (n : ℕ) : Type 0 where
 
 pub fronts : (old new E : List Term) (r : Option ℕ) (n : ℕ) → length old ≡ 40 → r ≡ Some n → r ≡ new_count (length old) E → new ≡ cond (is_some r) (over E old) old → Front E new n
 fronts old new E r n h some e o =
-    let p = picked n (length E) (leb (length E) (length old)) (sym some ∙ e) in
+    let p = cond_some (leb (length E) (length old)) (length E) n (sym e ∙ some) in
     let few : length E ≤ length old = leb-true (length E) (length old) p.0 in
     let after : new ≡ over E old = rw some at o in
     record {
       few = omega (arith, p.1);
       long = ap length after ∙ length-append E (drop (length E) old) ∙ omega (arith, length-drop (length E) old);
-      front = rw (after, p.1) (take-append_seam E (drop (length E) old));
+      front = rw (after, ← p.1) (take-append_seam E (drop (length E) old));
     }
 
 module _ (ts : List Term) (t : Term) where

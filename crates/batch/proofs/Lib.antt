@@ -3,7 +3,6 @@ mod Wording
 mod Exits
 mod Exactness
 mod Figures
-mod Picks
 mod Canonical
 mod Fronts
 mod Reductions

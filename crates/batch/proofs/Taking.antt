@@ -3,6 +3,7 @@ use Rattle.std.proofs.Common.{◌≡◌, ℕ, ◌<◌, false, ◌&&◌, List, []
 use lib.Ieee.{Float}
 use Rattle.std.specs.Float.{float_is_finite}
 use Rattle.std.proofs.lemmas.List.{length-map}
+use Rattle.std.proofs.lemmas.Option.{cond_some}
 use Rattle.std.proofs.lemmas.Bool.{and_parts}
 use Rattle.interval.specs.declared.marks.Interval.{Interval}
 use Rattle.interval.specs.declared.variable.Variable.{Variable}
@@ -18,13 +19,12 @@ use Rattle.batch.specs.Desks.{View, view, names, marks_a_unit, with_inputs, take
 use Rattle.batch.specs.Inputs.{named, named_variables, names_of, place_of}
 use Rattle.batch.specs.Statements.{input_is}
 use Rattle.batch.specs.Words.{Text}
-use Rattle.batch.proofs.Picks.{picked}
 
 -- a hull that fits
 pub hull_fit : (S : ℕ) (x : Float) (i : Interval) → Some i ≡ hulled S x → Fits i
 hull_fit S x i e =
-    let p = picked i (hull S x) (float_is_finite x && fits (hull S x)) e in
-    rw p.1 (fits-sized (hull_ordered S x) (and_parts (float_is_finite x) (fits (hull S x)) p.0).1)
+    let p = cond_some (float_is_finite x && fits (hull S x)) (hull S x) i (sym e) in
+    rw (← p.1) (fits-sized (hull_ordered S x) (and_parts (float_is_finite x) (fits (hull S x)) p.0).1)
 
 -- ---- the inputs of a desk
 pub counted : (i : Inputs) → length (named_variables i) ≡ vec_len i.all

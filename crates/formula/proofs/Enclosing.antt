@@ -9,7 +9,7 @@ use Rattle.interval.specs.declared.variable.Variable.{Variable as Var}
 use Rattle.interval.specs.Interval.{fits}
 use Rattle.interval.specs.Variable.{both_finite, uncrossed, hull_ends, variable, variable_of, Sound}
 use Rattle.interval.specs.Kind.{KindMeaning}
-use Rattle.interval.proofs.GivenEnds.{variable_sound}
+use Rattle.interval.proofs.GivenEnds.{accepted_tests, variable_sound}
 use Rattle.polynomial.specs.Method.{MethodMeaning}
 use Rattle.taylor.specs.Box.{InBox, units}
 use Rattle.taylor.specs.Product.{Worked}
@@ -33,11 +33,7 @@ use Rattle.formula.proofs.LineBounds.{in_marks, sound_bounds, sound_exact}
 
 -- a variable that is accepted is the one that its ends make
 pub accepted_is : (S : ℕ) (e : Ends) {v : Var} → variable_of S e.0 e.1 ≡ Ok v → v ≡ variable S e.0 e.1
-accepted_is S e q =
-    let (a, q1) = require_ok (both_finite e.0 e.1) EndNotFinite _ q in
-    let (b, q2) = require_ok (uncrossed e.0 e.1) EndsCrossed _ q1 in
-    let (c, q3) = require_ok (fits (hull_ends S e.0 e.1)) EndDoesNotFit _ q2 in
-    sym (same-value q3)
+accepted_is S e q = (accepted_tests S e.0 e.1 q).3
 
 -- ends that pass their tests make a box of sound variables
 pub tested_sound : (k : KindMeaning) (n : ℕ) (es : List Ends) → ends_tested k.scale n es ≡ Ok tt → AllByRecursion (Sound k.scale) (box_of k es)

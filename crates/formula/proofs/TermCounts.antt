@@ -17,7 +17,7 @@ use Rattle.polynomial.proofs.Coefficients.{dropped-length}
 use Rattle.taylor.specs.Model.{Model, tested}
 use Rattle.taylor.specs.Arithmetic.{constant, one, variable_model, sum}
 use Rattle.taylor.specs.Product.{Worked, worked, gathered, three_fit, product, product_pairs, times_worked, raised, power}
-use Rattle.taylor.proofs.Drafts.{length_pairs}
+use Rattle.taylor.proofs.Made.{sum_made, alone_made, product_made, times_made, pairs-counted}
 use Rattle.taylor.proofs.Results.{same-value, and_then_ok, require_ok}
 use Rattle.formula.specs.Work.{pairless}
 
@@ -36,44 +36,20 @@ variable-few n v =
     omega (arith, dropped-length (c ∷ (h ∷ [])))
 
 pub sum-few : (M N : Model) {R : Model} → sum M N ≡ Ok R → Few R
-unfolding sum
-sum-few M N q =
-    let table = joins M.terms N.terms in
-    let (a, e) = require_ok (leb (length table) 40) _ _ q in
-    let few : length (dropped table) ≤ 40 = omega (arith, leb-true (length table) 40 a, dropped-length table) in
-    subst Few (same-value e) few
-
-pub tested-same : (m : MethodMeaning) (M : Model) {N : Model} → tested m M ≡ Ok N → M ≡ N
-unfolding tested
-tested-same m M q = let (a, e) = require_ok _ _ (Ok M) q in same-value e
+sum-few M N {R} q = let s = sum_made M N R q in rw s.is (omega (arith, s.few, dropped-length (joins M.terms N.terms)))
 
 -- a model that makes no pairs
 pub pairless-few : (m : MethodMeaning) (M : Model) (b : Bool) {w : Worked} → Few M → pairless m M b ≡ Ok w → Few w.model × (w.pairs ≤ 11200)
-pairless-few m M b {w} f q =
-    let (N, e, q1) = and_then_ok (tested m M) _ q in
-    let is = same-value q1 in
-    (subst (λ (z : Worked). Few z.model) is (subst Few (tested-same m M e) f), subst (λ (z : Worked). z.pairs ≤ 11200) is (omega arith))
+pairless-few m M b {w} f q = rw (alone_made m M b w q).0 (f, omega arith)
 
 module _ (k : KindMeaning) (m : MethodMeaning) (order : ℕ) where
   product-few : (M N : Model) {R : Model} → product k m order M N ≡ Ok R → Few R
-  unfolding product
-  product-few M N q =
-      let G = gathered k order (product_pairs k M N) in
-      let (a, q1) = require_ok (leb (length G.terms) 40) _ _ q in
-      let (b, q2) = require_ok (all_fit (product_pairs k M N) && three_fit k m M N) _ _ q1 in
-      let few : length (dropped G.terms) ≤ 40 = omega (arith, leb-true (length G.terms) 40 a, dropped-length G.terms) in
-      subst Few (same-value q2) few
+  product-few M N {R} q =
+      let s = product_made k m order M N R q in
+      rw s.is (omega (arith, s.few, dropped-length (gathered k order (product_pairs k M N)).terms))
 
   pub times-few : (w : Worked) (N : Model) {v : Worked} → Few w.model → Few N → times_worked k m order w N ≡ Ok v → Few v.model × (v.pairs ≤ w.pairs + 1600)
-  times-few w N {v} f g q =
-      let (M, e, q1) = and_then_ok (and_then (product k m order w.model N) (tested m)) _ q in
-      let (R, p, t) = and_then_ok (product k m order w.model N) (tested m) e in
-      let is = same-value q1 in
-      let count = length_pairs k.scale w.model.terms N.terms in
-      let most : length w.model.terms * length N.terms ≤ 40 * 40 = mul-le-mul f g in (
-        subst (λ (z : Worked). Few z.model) is (subst Few (tested-same m R t) (product-few w.model N p)),
-        subst (λ (z : Worked). z.pairs ≤ w.pairs + 1600) is (omega arith),
-      )
+  times-few w N {v} f g q = (product-few w.model N (times_made k m order w v N q).made, pairs-counted k m order w v N q f g)
 
   raised-few : (n : ℕ) (w : Worked) (N : Model) {v : Worked} → Few w.model → Few N → raised k m order n w N ≡ Ok v → Few v.model × (v.pairs ≤ w.pairs + n * 1600)
   unfolding raised

@@ -1,5 +1,5 @@
 -- In the whole kind the work of a text keeps points: a stack that ends clean was clean at every token, so no pair was cut. Assumes nothing.
-use Rattle.std.proofs.Common.{◌≡◌, ℕ, Bool, true, ltb, List, [], ◌∷◌, ◌++◌, length, get_or, is_some, Ok, Result, ap, ◌∙◌, subst}
+use Rattle.std.proofs.Common.{◌≡◌, ℕ, Bool, true, ltb, List, [], ◌∷◌, ◌++◌, length, get_or, is_some, Ok, Result, ap, ◌∙◌, subst, sym}
 use Rattle.std.specs.List.{AllByRecursion}
 use Rattle.std.proofs.lemmas.Bool.{and_parts}
 use Rattle.interval.specs.declared.reason.Reason.{Reason}
@@ -13,6 +13,7 @@ use Rattle.taylor.specs.Model.{Model, tested}
 use Rattle.taylor.specs.Arithmetic.{constant, variable_model, sum, difference}
 use Rattle.taylor.specs.Product.{Worked, worked}
 use Rattle.taylor.specs.Exactness.{Whole, Pointed}
+use Rattle.taylor.proofs.Made.{alone_made}
 use Rattle.taylor.proofs.Results.{same-value, not_refused, and_then_ok, require_ok}
 use Rattle.taylor.proofs.WholeKind.{whole-exact}
 use Rattle.formula.specs.declared.token.Token.{Token}
@@ -24,7 +25,6 @@ use Rattle.formula.specs.Work.{Ground, ground, Stack, stack, no_variable, no_lin
 use Rattle.formula.specs.Meaning.{named, all_named}
 use Rattle.formula.specs.WorkLaws.{WholeToken, WholeLine, WorkWhole}
 use Rattle.formula.proofs.Faults.{at_place_ok}
-use Rattle.formula.proofs.TermCounts.{tested-same}
 use Rattle.formula.proofs.SoundWork.{constant-admitted}
 
 -- ---- one outcome more on a stack that is clean in the end
@@ -41,10 +41,7 @@ put-clean : (s : Stack) (rest : List Model) (r : Result Worked Reason) {u : Stac
 put-clean s rest r q c = let (w, e, q1) = and_then_ok r _ q in (and_parts s.clean w.clean (ap (λ (z : Stack). z.clean) (same-value q1) ∙ c)).0
 
 pairless_pointed : (m : MethodMeaning) (M : Model) (b : Bool) (w : Worked) → (b ≡ true → Pointed M) → pairless m M b ≡ Ok w → w.clean ≡ true → Pointed w.model
-pairless_pointed m M b w P q c =
-    let (N, e, q1) = and_then_ok (tested m M) _ q in
-    let is = same-value q1 in
-    subst (λ (z : Worked). Pointed z.model) is (subst Pointed (tested-same m M e) (P (ap (λ (z : Worked). z.clean) is ∙ c)))
+pairless_pointed m M b w P q c = let is = (alone_made m M b w q).0 in rw is (P (sym (ap (λ (z : Worked). z.clean) is) ∙ c))
 
 unary_pointed : (s : Stack) (Ms : List Model) (f : Model → Result Worked Reason) {u : Stack} → ((M : Model) (w : Worked) → Pointed M → f M ≡ Ok w → w.clean ≡ true → Pointed w.model) →
     AllByRecursion Pointed Ms → unary s Ms f ≡ Ok u → u.clean ≡ true → AllByRecursion Pointed u.operands

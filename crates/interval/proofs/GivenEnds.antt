@@ -4,6 +4,7 @@ use Rattle.std.proofs.Common.{◌≡◌, ℕ, Bool, true, false, cond, ◌&&◌,
 use lib.Ieee.{Float, lt}
 use borrow.Author.Differences.{ints}
 use Rattle.std.specs.Float.{float_is_finite}
+use Rattle.std.proofs.lemmas.Option.{cond_some}
 use Rattle.std.proofs.lemmas.Bool.Decides.{nat_tests}
 use Rattle.rational.specs.Fraction.{Fraction, whole, ◌*ᶠ◌, ◌≤ᶠ◌}
 use Rattle.rational.proofs.Laws.{transitive}
@@ -16,25 +17,17 @@ use Rattle.interval.specs.Reason.{require}
 use Rattle.interval.specs.Variable.{both_finite, uncrossed, hull_ends, centred, variable, variable_of, Sound}
 use Rattle.interval.proofs.Enclosure.{floor_le, hull-holds, inside_of, within_of, inside_wider}
 use Rattle.interval.proofs.Rounding.{floor_next}
-use Rattle.interval.proofs.Passing.{require_ok}
+use Rattle.interval.proofs.Passing.{same-value, require_ok, none_chosen}
 use Rattle.interval.proofs.Sizes.{fits-sized}
 use Rattle.interval.proofs.Orders.{value_le, scaled_le, hull_mono, hull_ordered}
 
 -- ---- one hull
-hulled-some : (i j : Interval) (b : Bool) → Some i ≡ cond b (Some j) None → (b ≡ true) × (i ≡ j)
-hulled-some i j true e = (refl, cc)
-hulled-some i j false e = let z : ◌≡◌ {A = ℕ} 0 1 = cc in absurd (omega arith)
-
-hulled_none : (j : Interval) (b : Bool) → None ≡ cond b (Some j) None → b ≡ false
-hulled_none j true e = let z : ◌≡◌ {A = ℕ} 0 1 = cc in absurd (omega arith)
-hulled_none j false e = refl
-
 module _ (S : ℕ) (x : Float) (p : float_is_finite x ≡ true) where
   pub hull-fits : (i : Interval) → Some i ≡ hulled S x → (fits (hull S x) ≡ true) × (i ≡ hull S x)
-  hull-fits i e = let h = hulled-some i (hull S x) (float_is_finite x && fits (hull S x)) e in (sym (ap (λ b. b && fits (hull S x)) p) ∙ h.0, h.1)
+  hull-fits i e = let h = cond_some (float_is_finite x && fits (hull S x)) (hull S x) i (sym e) in (sym (ap (λ b. b && fits (hull S x)) p) ∙ h.0, sym h.1)
 
   pub hull_unfit : None ≡ hulled S x → fits (hull S x) ≡ false
-  hull_unfit e = sym (ap (λ b. b && fits (hull S x)) p) ∙ hulled_none (hull S x) (float_is_finite x && fits (hull S x)) e
+  hull_unfit e = sym (ap (λ b. b && fits (hull S x)) p) ∙ none_chosen (hull S x) (float_is_finite x && fits (hull S x)) e
 
 -- ---- the two outer ends
 low_out : (a b c : ℤ) → b ≤ℤ c → fits (interval a b) ≡ false → fits (interval a c) ≡ false
@@ -120,15 +113,19 @@ module _ (S : ℕ) (x y : Float) (p : float_is_finite x ≡ true) (q : float_is_
         upper = within-span a b (transitive (whole a) v w low k) high (omega (arith, ints)) (omega (arith, ints));
       }
 
--- every variable that is accepted is sound
+-- a variable that is accepted passed the tests, and is the one that its ends make
+pub accepted_tests : (S : ℕ) (x y : Float) {v : Variable} → variable_of S x y ≡ Ok v → (both_finite x y ≡ true) × (uncrossed x y ≡ true) × (fits (hull_ends S x y) ≡ true) × (v ≡ variable S x y)
+accepted_tests S x y e =
+    let (a, e1) = require_ok (both_finite x y) EndNotFinite _ e in
+    let (b, e2) = require_ok (uncrossed x y) EndsCrossed _ e1 in
+    let (c, e3) = require_ok (fits (hull_ends S x y)) EndDoesNotFit _ e2 in
+    (a, b, c, sym (same-value e3))
+
+-- and is sound
 pub variable_sound : (S : ℕ) (x y : Float) (v : Variable) → Ok v ≡ variable_of S x y → Sound S v
 variable_sound S x y v e =
-    let last = require (fits (hull_ends S x y)) EndDoesNotFit (Ok (variable S x y)) in
-    let a = require_ok (both_finite x y) EndNotFinite (require (uncrossed x y) EndsCrossed last) (sym e) in
-    let b = require_ok (uncrossed x y) EndsCrossed last a.1 in
-    let c = require_ok (fits (hull_ends S x y)) EndDoesNotFit (Ok (variable S x y)) b.1 in
+    let (a, b, c, is) = accepted_tests S x y (sym e) in
     let p : float_is_finite x ≡ true = grind (arith, nat_tests) in
     let q : float_is_finite y ≡ true = grind (arith, nat_tests) in
     let h : lt y x ≡ false = grind (arith, nat_tests) in
-    let k : v ≡ variable S x y = cc in
-    subst (Sound S) (sym k) (sound S x y p q h (ends-sized S x y p q h c.0))
+    subst (Sound S) (sym is) (sound S x y p q h (ends-sized S x y p q h c))

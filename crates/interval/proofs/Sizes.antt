@@ -1,10 +1,9 @@
 -- How large the ends of a result are, from the sizes of its operands. Assumes nothing.
-use Rattle.std.proofs.Common.{◌≡◌, ℕ, ◌+◌, ◌*◌, ◌<◌, ◌≤◌, true, ℤ, pos, negsuc, ◌*ℤ◌, neg_ℤ, ◌≤ℤ◌, sym, subst, mul-le-mul, div-le_self, arith, pow_pos}
+use Rattle.std.proofs.Common.{◌≡◌, ℕ, ◌+◌, ◌*◌, ◌<◌, ◌≤◌, true, ℤ, pos, negsuc, ◌*ℤ◌, ◌≤ℤ◌, sym, subst, mul-le-mul, arith, pow_pos}
 use borrow.Author.Differences.{up, down, product_is, ints}
 use Rattle.std.proofs.lemmas.Int.{clamps}
-use Rattle.std.specs.Int.{int_min, int_max}
 use Rattle.interval.specs.declared.marks.Interval.{Interval}
-use Rattle.interval.specs.Interval.{Bounded, Sized, Fits, fits, interval, zero_interval, floor_div, ceil_div, plus, negated, even_reach, full_reach}
+use Rattle.interval.specs.Interval.{Bounded, Sized, Fits, fits, interval, zero_interval, plus, negated, even_reach, full_reach}
 use Rattle.interval.specs.Kind.{IsScale}
 
 pub scale-above : {S : ℕ} → IsScale S → 0 < S

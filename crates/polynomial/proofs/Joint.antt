@@ -1,7 +1,6 @@
 -- The joint range of a·u² + b·u for u from -1 to 1 holds every value, and lies within the plain range.
 -- Assumes nothing.
-use Rattle.std.proofs.Common.{◌≡◌, ℕ, zero, suc, ◌*◌, ◌<◌, ◌≤◌, Bool, true, false, cond, not, T, leb, ℤ, pos, negsuc, ◌+ℤ◌, ◌-ℤ◌, ◌*ℤ◌, neg_ℤ, nat_abs, ◌≤ℤ◌, sym, refl, subst, inl, inr, mul-le-mul_left, arith, leb→le}
-use lib.Dec.{nleb→lt}
+use Rattle.std.proofs.Common.{◌≡◌, ℕ, zero, suc, ◌*◌, ◌<◌, ◌≤◌, Bool, true, false, cond, T, ℤ, pos, negsuc, ◌+ℤ◌, ◌-ℤ◌, ◌*ℤ◌, neg_ℤ, nat_abs, ◌≤ℤ◌, sym, refl, subst, inl, inr, mul-le-mul_left, arith, leb→le}
 use lib.IntN.{pos-ne-negsuc, zero-*ℤ}
 use borrow.Author.Differences.{ints}
 use Rattle.std.specs.Int.{int_min, int_max}

@@ -1,13 +1,11 @@
 -- Sums over the terms, end by end: one term more, and all of them. Assumes nothing.
-use Rattle.std.proofs.Common.{◌≡◌, ℕ, ◌+◌, ◌*◌, ◌^◌, ◌<◌, ◌≤◌, cond, eqb, List, [], ◌∷◌, length, get_or, drop, sym, refl, ap, ◌∙◌, subst, ap₂, lit≤, arith}
+use Rattle.std.proofs.Common.{◌≡◌, ℕ, ◌+◌, ◌*◌, ◌^◌, ◌<◌, ◌≤◌, List, [], ◌∷◌, length, get_or, drop, sym, refl, ap, ◌∙◌, subst, ap₂, lit≤, arith}
 use lib.IntN.{+ℤ_idr, +ℤ_assoc}
 use Rattle.std.proofs.ByRecursion.{All-weaker, All-get_or}
 use Rattle.std.proofs.lemmas.List.{at_drop_more, at_drop_all}
-use Rattle.std.proofs.lemmas.Bool.{cond_both}
 use Rattle.interval.specs.declared.marks.Interval.{Interval}
-use Rattle.interval.specs.Interval.{interval, zero_interval, plus, even_reach, full_reach, Sized, Summable}
-use Rattle.interval.proofs.Sizes.{sized_weaken, sized-plus, sized-even, sized-full}
-use Rattle.table.specs.Monomial.{Monomial, degree, even}
+use Rattle.interval.specs.Interval.{interval, zero_interval, plus, Sized, Summable}
+use Rattle.interval.proofs.Sizes.{sized_weaken, sized-plus}
 use Rattle.polynomial.specs.declared.term.Term.{Term}
 use Rattle.polynomial.specs.Reach.{reach}
 use Rattle.polynomial.specs.Method.{FitTerm, Polynomial, plain}

@@ -4,7 +4,7 @@ use Rattle.std.proofs.ByRecursion.{All-get_or}
 use Rattle.std.proofs.lemmas.Int.{ints}
 use Rattle.std.proofs.lemmas.Bool.{cond_both}
 use Rattle.interval.specs.declared.marks.Interval.{Interval}
-use Rattle.interval.specs.Interval.{limit, interval, zero_interval, plus, Sized, Bounded, Fits}
+use Rattle.interval.specs.Interval.{limit, zero_interval, plus, Sized, Bounded, Fits}
 use Rattle.interval.proofs.Enclosure.{inside_ordered}
 use Rattle.interval.proofs.Sizes.{sized_zero, sized-point, sized_weaken, sized-plus, sized-even, sized-full, lower_bounded}
 use Rattle.table.specs.Monomial.{degree, even, root}

@@ -5,7 +5,7 @@ use Rattle.std.specs.List.{AllByRecursion}
 use Rattle.std.proofs.ByRecursion.{All-get_or, all_kept_by}
 use Rattle.table.specs.Order.{Order}
 use Rattle.table.specs.Table.{by_rank, entered, Next, Ascending}
-use Rattle.table.specs.Laws.{Exact, Once, StaysAscending, DropsAscend}
+use Rattle.table.specs.Laws.{Once, StaysAscending, DropsAscend}
 
 module _ {K : Type 0} (o : Order K) where
   pub same_rank : (k : K) → o.rank k k ≡ Equal

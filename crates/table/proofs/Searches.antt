@@ -1,7 +1,6 @@
 -- Where a key stands or would come, by the first entry, and as a search answers it. Assumes nothing.
-use Rattle.std.proofs.Common.{◌≡◌, ℕ, suc, ◌+◌, ◌<◌, ◌≤◌, Bool, true, false, cond, Ok, Err, Result, List, ◌∷◌, length, get_or, drop, Ordering, Less, Equal, Greater, sym, refl, ap, ◌∙◌, one-add, arith}
+use Rattle.std.proofs.Common.{◌≡◌, ℕ, suc, Bool, true, false, cond, Ok, Err, Result, List, ◌∷◌, drop, Ordering, Less, refl, ap, ◌∙◌, one-add}
 use Rattle.std.specs.Ordering.{is_lt, is_eq}
-use Rattle.std.proofs.lemmas.List.{at_drop_more, at_drop_all}
 use Rattle.table.specs.Order.{Order}
 use Rattle.table.specs.Table.{place, first_is, has_key, sought}
 

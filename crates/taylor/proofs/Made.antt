@@ -1,5 +1,5 @@
 -- What is known where an operation was not refused. Assumes nothing.
-use Rattle.std.proofs.Common.{◌≡◌, ℕ, ◌≤◌, true, ◌&&◌, leb, length, Ok, Result, sym, ap, ◌∙◌}
+use Rattle.std.proofs.Common.{◌≡◌, ℕ, ◌+◌, ◌≤◌, Bool, true, ◌&&◌, leb, length, Ok, Result, sym, ap, ◌∙◌, mul-le-mul, arith}
 use Rattle.std.proofs.lemmas.Bool.{leb-true, and_parts}
 use Rattle.interval.specs.declared.reason.Reason.{Reason}
 use Rattle.interval.specs.declared.reason.Reason.TheVariants.{TooManyMonomials, DoesNotFit}
@@ -12,6 +12,7 @@ use Rattle.polynomial.specs.Terms.{all_fit}
 use Rattle.taylor.specs.Model.{Model, model, full_range, tested}
 use Rattle.taylor.specs.Arithmetic.{sum}
 use Rattle.taylor.specs.Product.{Worked, worked, gathered, range_remainder, remainders, joint_remainder, three_fit, product, product_pairs, all_kept, times_worked}
+use Rattle.taylor.proofs.Drafts.{length_pairs}
 use Rattle.taylor.proofs.Results.{same-value, and_then_ok, require_ok}
 
 pub record SumMade (M N R : Model) : Type 0 where
@@ -43,11 +44,11 @@ test_made m M R e =
     record { coefficients = a.0; remainder = b.0; range = c.0; full = c.1; is = sym (same-value h.1) }
 
 -- a tested model that makes no pairs
-pub alone_made : (m : MethodMeaning) (M : Model) (w : Worked) → and_then (tested m M) (λ N. Ok (worked N 0 true)) ≡ Ok w → (w ≡ worked M 0 true) × (tested m M ≡ Ok M)
-alone_made m M w e =
-    let a = and_then_ok (tested m M) (λ N. Ok (worked N 0 true)) e in
+pub alone_made : (m : MethodMeaning) (M : Model) (b : Bool) (w : Worked) → and_then (tested m M) (λ N. Ok (worked N 0 b)) ≡ Ok w → (w ≡ worked M 0 b) × (tested m M ≡ Ok M)
+alone_made m M b w e =
+    let a = and_then_ok (tested m M) (λ N. Ok (worked N 0 b)) e in
     let same : a.0 ≡ M = (test_made m M a.0 a.1).is in
-    (sym (same-value a.2) ∙ ap (λ N. worked N 0 true) same, a.1 ∙ ap {B = Result Model Reason} Ok same)
+    (sym (same-value a.2) ∙ ap (λ N. worked N 0 b) same, a.1 ∙ ap {B = Result Model Reason} Ok same)
 
 module _ (k : KindMeaning) (m : MethodMeaning) (order : ℕ) where
   pub record ProductMade (M N R : Model) : Type 0 where
@@ -76,6 +77,7 @@ module _ (k : KindMeaning) (m : MethodMeaning) (order : ℕ) where
   pub record TimesMade (w v : Worked) (N : Model) : Type 0 where
     pub made : product k m order w.model N ≡ Ok v.model
     pub test : tested m v.model ≡ Ok v.model
+    pub pairs : v.pairs ≡ w.pairs + length (product_pairs k w.model N)
     pub clean : v.clean ≡ (w.clean && all_kept order (product_pairs k w.model N))
 
   pub times_made : (w v : Worked) (N : Model) → times_worked k m order w N ≡ Ok v → TimesMade w v N
@@ -87,5 +89,12 @@ module _ (k : KindMeaning) (m : MethodMeaning) (order : ℕ) where
       record {
         made = b.1 ∙ ap {B = Result Model Reason} Ok (sym same ∙ at);
         test = ap (tested m) (sym at ∙ same) ∙ b.2 ∙ ap {B = Result Model Reason} Ok at;
+        pairs = sym (ap (λ (u : Worked). u.pairs) (same-value a.2));
         clean = sym (ap (λ (u : Worked). u.clean) (same-value a.2));
       }
+
+  -- at most 1600 pairs more
+  pub pairs-counted : (w v : Worked) (N : Model) → times_worked k m order w N ≡ Ok v → length w.model.terms ≤ 40 → length N.terms ≤ 40 → v.pairs ≤ w.pairs + 1600
+  pairs-counted w v N e a b =
+      let n = (times_made w v N e).pairs in
+      omega (arith, n, length_pairs k.scale w.model.terms N.terms, mul-le-mul a b)

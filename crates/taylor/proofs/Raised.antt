@@ -16,7 +16,7 @@ use Rattle.taylor.specs.Product.{Worked, worked, product_pairs, product, times_w
 use Rattle.taylor.specs.Keeping.{room}
 use Rattle.taylor.specs.Record.{Held, Ready, passed, worked_of, packed_worked, recorded_worked}
 use Rattle.taylor.proofs.Results.{same-value, and_then_ok}
-use Rattle.taylor.proofs.Made.{test_made}
+use Rattle.taylor.proofs.Made.{test_made, pairs-counted}
 use Rattle.taylor.proofs.Sizes.{one-fits}
 use Rattle.taylor.proofs.Drafts.{length_pairs}
 use Rattle.taylor.proofs.Forms.{constant_formed}
@@ -77,10 +77,7 @@ module _ (k : KindMeaning) (m : MethodMeaning) (order : ℕ) (W V : WorkedRecord
 
   -- and has at most 1600 pairs more
   pub times_counted : length (unpacked W.model).terms ≤ 40 → length N.terms ≤ 40 → V.pairs ≤ W.pairs + 1600
-  times_counted a b =
-      let c = and_then_ok (and_then (product k m order (unpacked W.model) N) (tested m)) _ came.1 in
-      let n : W.pairs + length (product_pairs k (unpacked W.model) N) ≡ V.pairs = ap (λ (v : Worked). v.pairs) (same-value c.2) ∙ ap (λ (R : WorkedRecord). R.pairs) (sym is) in
-      omega (arith, n, length_pairs k.scale (unpacked W.model).terms N.terms, mul-le-mul a b)
+  times_counted a b = pairs-counted k m order (worked_of W) (worked_of V) N next_is a b
 
 -- ---- as many as are left
 module _ (k : KindMeaning) (m : MethodMeaning) (order : ℕ) (N : Model) (n i : ℕ) where

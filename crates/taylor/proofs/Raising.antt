@@ -34,7 +34,7 @@ module _ (us : List Fraction) (U : Units us) (k : KindMeaning) (m : MethodMeanin
   unfolding power pow
   power-carries zero M w x P E e =
       let S = pos k.scale in
-      rw ((alone_made m (one k) w e).0, ring1 ℚ_ring (λ s. lit (pos 1) ⊗ s ≈ s) tt (of S), of_is S)
+      rw ((alone_made m (one k) true w e).0, ring1 ℚ_ring (λ s. lit (pos 1) ⊗ s ≈ s) tt (of S), of_is S)
       (constant-holds us k (interval S S) (whole S) (one-fits k) (inside-point S (sym (of_is S))))
-  power-carries (suc zero) M w x P E e = rw ((alone_made m M w e).0, ring1 ℚ_ring (λ x. x ⊗ lit (pos 1) ≈ x) tt x) E
+  power-carries (suc zero) M w x P E e = rw ((alone_made m M true w e).0, ring1 ℚ_ring (λ x. x ⊗ lit (pos 1) ≈ x) tt x) E
   power-carries (suc (suc n)) M w x P E e = raised-carries (suc n) (worked M 0 true) w M x x P P E E e

@@ -1,10 +1,7 @@
 -- What is known where a result was refused, and where it was not. Assumes nothing.
 use Rattle.std.proofs.Common.{◌≡◌, Bool, true, Ok, Err, Result, IsErrAnd, refl, ap}
 use Rattle.interval.specs.Reason.{require}
-pub use Rattle.interval.proofs.Passing.{not_refused, and_then_ok, require_ok}
-
-pub same-value : {A E : Type 0} {x y : A} → ◌≡◌ {A = Result A E} (Ok x) (Ok y) → x ≡ y
-same-value e = cc
+pub use Rattle.interval.proofs.Passing.{same-value, not_refused, and_then_ok, require_ok}
 
 -- what ? passes on is the refusal that it met
 pub passed_on : {A E : Type 0} (r : Result A E) {e : E} → IsErrAnd r (λ d. d ≡ e) → r ≡ Err e

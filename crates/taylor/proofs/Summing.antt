@@ -5,6 +5,7 @@ use Rattle.std.specs.List.{AllByRecursion}
 use Rattle.std.proofs.ByRecursion.{All-weaker, All-get_or}
 use Rattle.std.proofs.lemmas.List.{at_drop_more, at_drop_all, get_or_default}
 use Rattle.std.proofs.lemmas.List.Edits.{map_over_more}
+use Rattle.std.proofs.lemmas.Option.{cond_some}
 use Rattle.std.proofs.lemmas.Bool.{leb-true, leb-false, lt-leb, le-leb}
 use Rattle.interval.specs.declared.marks.Interval.{Interval}
 use Rattle.interval.specs.declared.reason.Reason.{Reason}
@@ -24,23 +25,13 @@ use Rattle.taylor.specs.Model.{Model, model, packed, unpacked}
 use Rattle.taylor.specs.Form.{Formed, Draft, DraftTerm}
 use Rattle.taylor.specs.Arithmetic.{opposite, negated_model, sum}
 use Rattle.taylor.specs.Record.{Held, recorded}
+use Rattle.interval.proofs.Passing.{none_chosen}
 use Rattle.taylor.proofs.Drafts.{draft_more, draft-joins}
 use Rattle.taylor.proofs.Forms.{negated_formed}
 use Rattle.taylor.proofs.Keeps.{packing}
 use Rattle.taylor.proofs.Packed.{Places, record_of, swept}
 
 -- ---- one term enters
-
-counted : (n many : ℕ) (b : Bool) → Some n ≡ cond b (Some many) None → (b ≡ true) × (n ≡ many)
-counted n many true e = (refl, cc)
-counted n many false e = let z : ◌≡◌ {A = Option ℕ} (Some n) None = e in absurd (some_none z)
-  where
-    some_none : {m : ℕ} → ◌≡◌ {A = Option ℕ} (Some m) None → ⊥
-    some_none q = let z : ◌≡◌ {A = ℕ} 0 1 = cc in omega arith
-
-uncounted : (many : ℕ) (b : Bool) → None ≡ cond b (Some many) None → b ≡ false
-uncounted many true e = let z : ◌≡◌ {A = Bool} true false = cc in z
-uncounted many false e = refl
 
 -- the answer o to entering, where it is a number
 pub entered_some : {o : Option ℕ} {n : ℕ} {after : List Term} (full terms : List Term) → o ≡ Some n → after ≡ (if is_some o then full else terms) → after ≡ full
@@ -56,14 +47,14 @@ module _ (terms : List Term) (count : ℕ) (ts : List Term) (p : Places terms co
   -- there was room for it
   pub term-entered : (after : List Term) (n : ℕ) → Some n ≡ new_count (length terms) (with_term (take count terms) t) → after ≡ over (with_term (take count terms) t) terms → Places after n (with_term ts t)
   term-entered after n e is =
-      let h = counted n (length (with_term (take count terms) t)) (leb (length (with_term (take count terms) t)) (length terms)) e in
+      let h = cond_some (leb (length (with_term (take count terms) t)) (length terms)) (length (with_term (take count terms) t)) n (sym e) in
       let few = leb-true (length (with_term (take count terms) t)) (length terms) h.0 in
-      packs-entered 40 _ terms count ts p by_degree (λ u. u.monomial) joined t after n (omega (arith, few, packs_long 40 _ terms count ts p)) is h.1
+      packs-entered 40 _ terms count ts p by_degree (λ u. u.monomial) joined t after n (omega (arith, few, packs_long 40 _ terms count ts p)) is (sym h.1)
 
   -- there was none
   pub term_too_many : None ≡ new_count (length terms) (with_term (take count terms) t) → 40 < length (with_term ts t)
   term_too_many e =
-      let many = leb-false (length (with_term (take count terms) t)) (length terms) (uncounted _ _ e) in
+      let many = leb-false (length (with_term (take count terms) t)) (length terms) (none_chosen _ _ e) in
       omega (arith, many, packs_long 40 _ terms count ts p, ap length with_front)
 
 -- ---- a sum: the terms of `more` enter one by one

@@ -86,7 +86,7 @@ module _ (k : KindMeaning) (m : MethodMeaning) (order : ℕ) where
   unfolding power
   power-kept d zero M w h T D e =
       let F = constant_formed k (interval (pos k.scale) (pos k.scale)) (one-fits k) in
-      let made = alone_made m (one k) w e in
+      let made = alone_made m (one k) true w e in
       rw made.0 ((test_passed m (one k) (one k) F.normal made.1).1, All-weaker (λ t. degree t.monomial ≤ 0) (λ t. degree t.monomial ≤ d) (λ t l. omega arith) (one k).terms F.degrees)
-  power-kept d (suc zero) M w h T D e = rw (alone_made m M w e).0 (T, D)
+  power-kept d (suc zero) M w h T D e = rw (alone_made m M true w e).0 (T, D)
   power-kept d (suc (suc n)) M w h T D e = raised-kept d (suc n) (worked M 0 true) w M h T D T.normal e

@@ -96,8 +96,8 @@ module _ (k : KindMeaning) (W : Whole k) where
 
     power_pointed : (n : ℕ) (M : Model) (w : Worked) → Pointed M → power k m order n M ≡ Ok w → w.clean ≡ true → Pointed w.model
     unfolding power
-    power_pointed zero M w P e c = rw (alone_made m (one k) w e).0 (constant_pointed (interval (pos k.scale) (pos k.scale)) (one-fits k) refl)
-    power_pointed (suc zero) M w P e c = rw (alone_made m M w e).0 P
+    power_pointed zero M w P e c = rw (alone_made m (one k) true w e).0 (constant_pointed (interval (pos k.scale) (pos k.scale)) (one-fits k) refl)
+    power_pointed (suc zero) M w P e c = rw (alone_made m M true w e).0 P
     power_pointed (suc (suc n)) M w P e c = raised_pointed (suc n) (worked M 0 true) w M P P e c
 
 pub whole-exact : WholeExact

@@ -1,5 +1,4 @@
-use Rattle.std.proofs.Common.{ℕ, arith}
-use Rattle.std.proofs.lemmas.List.Sums.{get_or-le-sum_by}
+use Rattle.std.proofs.Common.{arith}
 use Rattle.table.proofs.Monomials.{is_multiplied}
 use Rattle.table.proofs.exponents.product.Goals as goal
 
