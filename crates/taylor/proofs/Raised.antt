@@ -1,5 +1,5 @@
 -- Powers, product by product: as many as are left bring what was worked so far to the same end. Assumes nothing.
-use Rattle.std.proofs.Common.{◌≡◌, ℕ, suc, ◌+◌, ◌-◌, ◌<◌, ◌≤◌, true, length, pos, Ok, Err, Result, sym, ap, ◌∙◌, mul-le-mul, arith, lit≤}
+use Rattle.std.proofs.Common.{◌≡◌, ℕ, suc, ◌+◌, ◌-◌, ◌<◌, ◌≤◌, true, length, pos, Ok, Err, Result, sym, ap, ◌∙◌, arith, lit≤}
 use Rattle.std.proofs.ByRecursion.{All-weaker}
 use Rattle.interval.specs.declared.reason.Reason.{Reason}
 use Rattle.interval.specs.Interval.{limit, Sized, interval}
@@ -12,13 +12,12 @@ use Rattle.taylor.specs.declared.worked.WorkedRecord.{WorkedRecord}
 use Rattle.taylor.specs.Model.{Model, packed, unpacked, tested}
 use Rattle.taylor.specs.Form.{greatest_order, Degrees, Normal, Tested}
 use Rattle.taylor.specs.Arithmetic.{one}
-use Rattle.taylor.specs.Product.{Worked, worked, product_pairs, product, times_worked, raised, power}
+use Rattle.taylor.specs.Product.{Worked, worked, times_worked, raised, power}
 use Rattle.taylor.specs.Keeping.{room}
 use Rattle.taylor.specs.Record.{Held, Ready, passed, worked_of, packed_worked, recorded_worked}
 use Rattle.taylor.proofs.Results.{same-value, and_then_ok}
 use Rattle.taylor.proofs.Made.{test_made, pairs-counted}
 use Rattle.taylor.proofs.Sizes.{one-fits}
-use Rattle.taylor.proofs.Drafts.{length_pairs}
 use Rattle.taylor.proofs.Forms.{constant_formed}
 use Rattle.taylor.proofs.Tests.{times-kept}
 use Rattle.taylor.proofs.Keeps.{packing}

@@ -1,5 +1,5 @@
 -- Pairs that come row by row: what is left of them brings the tally to the same end. Assumes nothing.
-use Rattle.std.proofs.Common.{◌≡◌, ℕ, ◌+◌, ◌*◌, ◌<◌, ◌≤◌, Bool, true, false, cond, leb, List, [], ◌∷◌, ◌++◌, length, get_or, drop, ◌≤ℤ◌, Ok, Err, fold, sym, refl, ap, ◌∙◌, subst, mul-le-mul_right, add-mul, add-one-le, arith}
+use Rattle.std.proofs.Common.{◌≡◌, ℕ, ◌+◌, ◌*◌, ◌<◌, ◌≤◌, Bool, true, false, leb, List, [], ◌∷◌, length, get_or, drop, ◌≤ℤ◌, Ok, Err, sym, refl, ap, ◌∙◌, subst, mul-le-mul_right, add-mul, add-one-le, arith}
 use Rattle.std.proofs.lemmas.List.{at_drop_more, at_drop_all}
 use Rattle.std.proofs.lemmas.List.Sums.{fold-append}
 use Rattle.std.proofs.lemmas.Bool.{leb-false, le-leb, lt-leb}
@@ -7,14 +7,11 @@ use Rattle.interval.specs.declared.reason.Reason.{Reason}
 use Rattle.interval.specs.declared.reason.Reason.TheVariants.{TooManyMonomials}
 use Rattle.interval.specs.Kind.{KindMeaning}
 use Rattle.interval.specs.Reason.{require}
-use Rattle.table.specs.Order.{by_degree}
-use Rattle.table.proofs.Growth.{entered_grows}
 use Rattle.polynomial.specs.declared.term.Term.{Term}
-use Rattle.polynomial.specs.Reach.{term, joined}
 use Rattle.polynomial.proofs.Coefficients.{unread}
 use Rattle.taylor.specs.declared.tally.TallyRecord.{TallyRecord}
-use Rattle.taylor.specs.Model.{Model, unpacked}
-use Rattle.taylor.specs.Product.{pair, row, pairs, kept, keep, cut, gather}
+use Rattle.taylor.specs.Model.{unpacked}
+use Rattle.taylor.specs.Product.{pair, row, pairs}
 use Rattle.taylor.specs.Gathering.{Tally, held, tallied, tally, roomy, tally_of, Took}
 use Rattle.taylor.proofs.Counting.{one_grows}
 use Rattle.taylor.proofs.Results.{not_refused, require_yes}

@@ -1,13 +1,11 @@
 -- The ends of products are in order, and 1 in marks fits. Assumes nothing.
-use Rattle.std.proofs.Common.{ℕ, ◌<◌, ◌≤◌, Bool, true, false, cond, eqb, pos, ◌≤ℤ◌, arith, pow_pos, pow_mono}
+use Rattle.std.proofs.Common.{ℕ, ◌<◌, ◌≤◌, pos, ◌≤ℤ◌, arith, pow_mono}
 use Rattle.std.proofs.lemmas.Int.{ints, clamps}
 use Rattle.interval.specs.declared.marks.Interval.{Interval}
-use Rattle.interval.specs.Interval.{Sized, Fits, interval, zero_interval, least, greatest, times, even_reach, full_reach}
+use Rattle.interval.specs.Interval.{Fits, interval, least, greatest, times}
 use Rattle.interval.specs.Kind.{KindMeaning}
 use Rattle.interval.proofs.Rounding.{floor_le_ceil}
 use Rattle.interval.proofs.Sizes.{scale-above as above}
-use Rattle.table.specs.Monomial.{Monomial, degree, even}
-use Rattle.polynomial.specs.Reach.{reach}
 
 -- the least of the four products is not above the greatest
 pub times-order : (S : ℕ) → 0 < S → (i j : Interval) → (times S i j).lower ≤ℤ (times S i j).upper

@@ -1,5 +1,5 @@
 -- Terms enter the places of a record one after the other: what then stands there, and when there is no room. Assumes nothing.
-use Rattle.std.proofs.Common.{◌≡◌, ℕ, ◌+◌, ◌-◌, ◌*◌, ◌^◌, ◌<◌, ◌≤◌, Bool, true, false, cond, leb, List, [], ◌∷◌, ◌++◌, map, length, get_or, take, drop, set, Some, None, is_some, Ok, Err, Option, Result, if◌then◌else◌, sym, refl, ap, ◌∙◌, subst, arith}
+use Rattle.std.proofs.Common.{◌≡◌, ℕ, ◌+◌, ◌*◌, ◌<◌, ◌≤◌, leb, List, [], ◌∷◌, ◌++◌, map, length, get_or, take, drop, set, Some, None, is_some, Ok, Err, Option, Result, if◌then◌else◌, sym, refl, ap, ◌∙◌, subst, arith}
 use Rattle.std.specs.Option.{ok_or}
 use Rattle.std.specs.List.{AllByRecursion}
 use Rattle.std.proofs.ByRecursion.{All-weaker, All-get_or}
@@ -10,7 +10,7 @@ use Rattle.std.proofs.lemmas.Bool.{leb-true, leb-false, lt-leb, le-leb}
 use Rattle.interval.specs.declared.marks.Interval.{Interval}
 use Rattle.interval.specs.declared.reason.Reason.{Reason}
 use Rattle.interval.specs.declared.reason.Reason.TheVariants.{TooManyMonomials}
-use Rattle.interval.specs.Interval.{limit, Sized, Summable, plus}
+use Rattle.interval.specs.Interval.{limit, Summable, plus}
 use Rattle.interval.proofs.Sizes.{sized_weaken}
 use Rattle.table.specs.Order.{by_degree}
 use Rattle.table.specs.Slice.{over}
