@@ -6,13 +6,12 @@ use Rattle.std.proofs.ByRecursion.{All-weaker}
 use Rattle.std.proofs.lemmas.Int.{ints}
 use Rattle.std.proofs.lemmas.Bool.{and_parts, and_from}
 use Rattle.interval.specs.Interval.{Fits, Summable, fits}
-use Rattle.interval.specs.declared.marks.Interval.{Interval}
 use Rattle.interval.proofs.Sizes.{sized_weaken, fits-sized, sized-fits}
 use Rattle.polynomial.specs.declared.term.Term.{Term}
 use Rattle.polynomial.specs.Reach.{joined, with_term}
 use Rattle.polynomial.specs.Terms.{all_fit}
-use Rattle.table.specs.Order.{by_degree, rank_monomials}
-use Rattle.table.specs.Table.{by_rank, Next, Ascending}
+use Rattle.table.specs.Order.{by_degree}
+use Rattle.table.specs.Table.{Next, Ascending}
 use Rattle.table.proofs.Ascents.{entered-ascends}
 use Rattle.table.proofs.Growth.{all_entered}
 use Rattle.batch.specs.Drafts.{fitting, before, canonical}

@@ -1,10 +1,8 @@
 -- Without its terms of [0, 0] a canonical list is a polynomial whose coefficients fit.
-use Rattle.std.proofs.Common.{◌≡◌, ℕ, ◌-◌, ◌≤◌, true, not, List, [], ◌∷◌, ◌++◌, length, take, drop, replicate, refl, ap, ◌∙◌, append_assoc, arith, length-append, length-drop, length-take, rules}
+use Rattle.std.proofs.Common.{◌≡◌, ℕ, ◌-◌, ◌≤◌, true, not, List, ◌++◌, length, take, drop, replicate, ap, ◌∙◌, append_assoc, arith, length-append, length-drop, length-take, rules}
 use lib.ListN.{length-replicate}
 use lib.Seq.{take-append_seam}
-use Rattle.std.specs.List.{AllByRecursion}
 use Rattle.std.proofs.ByRecursion.{all_kept_by, kept_by_passes}
-use Rattle.std.proofs.lemmas.List.Filters.{length-filter_both}
 use Rattle.interval.specs.Interval.{is_zero}
 use Rattle.polynomial.specs.declared.term.Term.{Term}
 use Rattle.polynomial.specs.Method.{FitTerm, Polynomial}

@@ -4,10 +4,8 @@ use Rattle.std.specs.List.{AllByRecursion}
 use Rattle.std.proofs.lemmas.List.{length-map}
 use Rattle.std.proofs.lemmas.Bool.{and_parts, leb-true}
 use Rattle.rational.specs.Fraction.{Fraction}
-use Rattle.interval.specs.declared.reason.Reason.TheVariants.{EndNotFinite, EndsCrossed, EndDoesNotFit}
 use Rattle.interval.specs.declared.variable.Variable.{Variable as Var}
-use Rattle.interval.specs.Interval.{fits}
-use Rattle.interval.specs.Variable.{both_finite, uncrossed, hull_ends, variable, variable_of, Sound}
+use Rattle.interval.specs.Variable.{variable, variable_of, Sound}
 use Rattle.interval.specs.Kind.{KindMeaning}
 use Rattle.interval.proofs.GivenEnds.{accepted_tests, variable_sound}
 use Rattle.polynomial.specs.Method.{MethodMeaning}
@@ -16,7 +14,7 @@ use Rattle.taylor.specs.Product.{Worked}
 use Rattle.taylor.specs.Selection.{marks}
 use Rattle.taylor.specs.Exactness.{Whole}
 use Rattle.taylor.proofs.Coordinates.{points_hold}
-use Rattle.taylor.proofs.Results.{same-value, and_then_ok, require_ok}
+use Rattle.taylor.proofs.Results.{and_then_ok, require_ok}
 use Rattle.formula.specs.declared.token.Token.{Token}
 use Rattle.formula.specs.declared.token.Token.TheVariants.{Constant, Variable, Line, Power, Add, Subtract, Multiply}
 use Rattle.formula.specs.Fault.{at_place}

@@ -1,24 +1,19 @@
 -- How many terms a model has and how many pairs an operation makes: at most 40 terms, so at most 1,600 pairs a product, and seven times
 -- that a power. Assumes nothing.
-use Rattle.std.proofs.Common.{◌≡◌, ℕ, zero, suc, ◌+◌, ◌*◌, ◌≤◌, Bool, true, not, ◌&&◌, leb, List, [], ◌∷◌, length, Ok, subst, mul-le-mul, arith}
-use Rattle.std.proofs.lemmas.List.Sums.{length-filter, count_by-le-length}
-use Rattle.std.proofs.lemmas.Bool.{leb-true}
+use Rattle.std.proofs.Common.{◌≡◌, ℕ, zero, suc, ◌+◌, ◌*◌, ◌≤◌, Bool, true, [], ◌∷◌, length, Ok, subst, arith}
 use Rattle.interval.specs.declared.marks.Interval.{Interval}
 use Rattle.interval.specs.declared.variable.Variable.{Variable as Var}
-use Rattle.interval.specs.Reason.{and_then}
-use Rattle.interval.specs.Interval.{interval, is_zero}
+use Rattle.interval.specs.Interval.{interval}
 use Rattle.interval.specs.Kind.{KindMeaning}
 use Rattle.table.specs.Monomial.{constant_monomial, linear}
-use Rattle.polynomial.specs.declared.term.Term.{Term}
-use Rattle.polynomial.specs.Reach.{term, joins, dropped}
+use Rattle.polynomial.specs.Reach.{term, joins}
 use Rattle.polynomial.specs.Method.{MethodMeaning}
-use Rattle.polynomial.specs.Terms.{all_fit}
 use Rattle.polynomial.proofs.Coefficients.{dropped-length}
-use Rattle.taylor.specs.Model.{Model, tested}
+use Rattle.taylor.specs.Model.{Model}
 use Rattle.taylor.specs.Arithmetic.{constant, one, variable_model, sum}
-use Rattle.taylor.specs.Product.{Worked, worked, gathered, three_fit, product, product_pairs, times_worked, raised, power}
+use Rattle.taylor.specs.Product.{Worked, worked, gathered, product, product_pairs, times_worked, raised, power}
 use Rattle.taylor.proofs.Made.{sum_made, alone_made, product_made, times_made, pairs-counted}
-use Rattle.taylor.proofs.Results.{same-value, and_then_ok, require_ok}
+use Rattle.taylor.proofs.Results.{same-value, and_then_ok}
 use Rattle.formula.specs.Work.{pairless}
 
 abbrev pub Few : Model → Type 0

@@ -9,7 +9,7 @@ use Rattle.interval.specs.Kind.{KindMeaning}
 use Rattle.interval.proofs.Orders.{hull_ordered}
 use Rattle.interval.proofs.Sizes.{fits-sized}
 use Rattle.polynomial.specs.Method.{MethodMeaning}
-use Rattle.taylor.specs.Model.{Model, tested}
+use Rattle.taylor.specs.Model.{Model}
 use Rattle.taylor.specs.Arithmetic.{constant, variable_model, sum, difference}
 use Rattle.taylor.specs.Product.{Worked, worked}
 use Rattle.taylor.specs.Exactness.{Whole, Pointed}

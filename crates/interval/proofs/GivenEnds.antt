@@ -1,6 +1,6 @@
 -- Two given ends: where one of their hulls does not fit the variable is refused, and where both fit it is sound. Hulls are
 -- monotone, so that the two outer ends fit exactly where both hulls do. Assumes nothing.
-use Rattle.std.proofs.Common.{◌≡◌, ℕ, Bool, true, false, cond, ◌&&◌, ℤ, pos, ◌+ℤ◌, ◌*ℤ◌, ◌≤ℤ◌, ◌<ℤ◌, Some, None, Ok, Err, sym, refl, ap, ◌∙◌, subst, ap₂, arith, lit<}
+use Rattle.std.proofs.Common.{◌≡◌, ℕ, true, false, ◌&&◌, ℤ, pos, ◌+ℤ◌, ◌*ℤ◌, ◌≤ℤ◌, ◌<ℤ◌, Some, None, Ok, Err, sym, ap, ◌∙◌, subst, ap₂, arith, lit<}
 use lib.Ieee.{Float, lt}
 use borrow.Author.Differences.{ints}
 use Rattle.std.specs.Float.{float_is_finite}

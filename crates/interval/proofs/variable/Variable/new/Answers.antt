@@ -1,11 +1,10 @@
 -- Each way out, at the two ends as they are passed.
 use Rattle.std.proofs.lemmas.Grind.{common_steps}
 use Rattle.interval.specs.declared.reason.Reason.TheVariants.{EndDoesNotFit}
-use Rattle.std.proofs.Common.{◌≡◌, Ok, Err, None, Some, arith, sym, ap, ◌∙◌, subst, ap₂, w64, SFits, to_z, of_z, rules}
+use Rattle.std.proofs.Common.{◌≡◌, Ok, Err, None, Some, arith, sym, ap, ◌∙◌, w64, SFits, to_z, of_z, rules}
 use Rattle.std.proofs.lemmas.Int.{to_z-of_z}
 use Rattle.interval.specs.declared.marks.Interval.{Interval}
 use Rattle.interval.specs.Interval.{interval, Fits}
-use Rattle.interval.specs.Hull.{hulled}
 use Rattle.interval.specs.Scale.{per_unit}
 use Rattle.interval.specs.Variable.{centred, variable_of}
 use Rattle.interval.proofs.GivenEnds.{lower_unfit, upper_unfit, fitting, accepted, variable_sound}
