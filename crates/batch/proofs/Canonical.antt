@@ -1,5 +1,5 @@
 -- A canonical list of terms ascends and its coefficients fit; a term that enters one keeps it so, if every coefficient still fits.
-use Rattle.std.proofs.Common.{◌≡◌, true, ◌&&◌, List, [], ◌∷◌, length, ◌≤ℤ◌, Ordering, Less, Equal, Greater, sym, refl, ap, true≢false, lit≤, arith, rules}
+use Rattle.std.proofs.Common.{◌≡◌, true, ◌&&◌, List, [], ◌∷◌, length, ◌≤ℤ◌, refl, ap, lit≤, arith, rules}
 use Rattle.std.specs.Ordering.{is_lt}
 use Rattle.std.specs.List.{AllByRecursion}
 use Rattle.std.proofs.ByRecursion.{All-weaker}
@@ -12,7 +12,7 @@ use Rattle.polynomial.specs.Reach.{joined, with_term}
 use Rattle.polynomial.specs.Terms.{all_fit}
 use Rattle.table.specs.Order.{by_degree}
 use Rattle.table.specs.Table.{Next, Ascending}
-use Rattle.table.proofs.Ascents.{entered-ascends}
+use Rattle.table.proofs.Ascents.{is_less, entered-ascends}
 use Rattle.table.proofs.Growth.{all_entered}
 use Rattle.batch.specs.Drafts.{fitting, before, canonical}
 
@@ -23,11 +23,6 @@ pub record Fitting (t : Term) : Type 0 where
 
 abbrev pub Rises : List Term → Type 0
 Rises ts = Ascending by_degree (λ t. t.monomial) ts
-
-is_less : (r : Ordering) → is_lt r ≡ true → r ≡ Less
-is_less Less e = refl
-is_less Equal e = absurd (true≢false (sym e))
-is_less Greater e = absurd (true≢false (sym e))
 
 pub fitting_is : (t : Term) → fitting t ≡ true → Fitting t
 fitting_is t e = record { six = search rules; fit = fits-sized (search rules) (search rules) }

@@ -7,6 +7,11 @@ use Rattle.table.specs.Order.{Order}
 use Rattle.table.specs.Table.{by_rank, entered, Next, Ascending}
 use Rattle.table.specs.Laws.{Once, StaysAscending, DropsAscend}
 
+pub is_less : (r : Ordering) → is_lt r ≡ true → r ≡ Less
+is_less Less e = refl
+is_less Equal e = absurd (true≢false (sym e))
+is_less Greater e = absurd (true≢false (sym e))
+
 module _ {K : Type 0} (o : Order K) where
   pub same_rank : (k : K) → o.rank k k ≡ Equal
   same_rank k = go (o.rank k k) (o.flip k k)

@@ -1,14 +1,10 @@
 -- A row ascends exactly where every key is below the next one, place by place. Assumes nothing.
-use Rattle.std.proofs.Common.{◌≡◌, ℕ, zero, suc, ◌<◌, Bool, true, false, List, [], ◌∷◌, length, get_or, Ordering, Less, Equal, Greater, Decides, sym, refl, ap, ◌∙◌, true≢false, add-one, arith}
+use Rattle.std.proofs.Common.{◌≡◌, ℕ, zero, suc, ◌<◌, Bool, true, false, List, [], ◌∷◌, length, get_or, Less, Decides, sym, refl, ap, ◌∙◌, true≢false, add-one, arith}
 use Rattle.std.specs.List.{IsAllAdjacentAnswer}
 use Rattle.std.specs.Ordering.{is_lt}
 use Rattle.table.specs.Order.{Order}
 use Rattle.table.specs.Table.{Next, Ascending}
-
-is_less : (r : Ordering) → true ≡ is_lt r → r ≡ Less
-is_less Less e = refl
-is_less Equal e = absurd (true≢false e)
-is_less Greater e = absurd (true≢false e)
+use Rattle.table.proofs.Ascents.{is_less}
 
 module _ {E K : Type 0} (o : Order K) (key : E → K) where
   -- whether x's key is below y's
@@ -41,7 +37,7 @@ module _ {E K : Type 0} (o : Order K) (key : E → K) where
 
   -- what a test of all neighbours answers
   pub decided : (es : List E) (r : Bool) → IsAllAdjacentAnswer (λ x y b. b ≡ is_below x y) es r → Decides r (Ascending o key es)
-  decided es true h = (λ e. ascending es (λ d i below. is_less _ (rw add-one at (h i d (omega arith)))), λ a. refl)
+  decided es true h = (λ e. ascending es (λ d i below. is_less _ (sym (rw add-one at (h i d (omega arith))))), λ a. refl)
   decided [] false (k, below, h) = absurd (omega arith)
   decided (x ∷ xs) false (k, below, h) =
       let apart : false ≡ is_lt (o.rank (key (get_or (x ∷ xs) k x)) (key (get_or (x ∷ xs) (suc k) x))) = rw add-one at (h x) in
