@@ -10,6 +10,7 @@ use std::fmt;
 // Sixteen places after the point suffice, since a unit has at most 2^16 marks.
 #[derive(Clone, Copy, Debug, PartialEq, Eq)]
 pub struct Decimal {
+    // beside the whole number, since 0 has none to carry the sign of -0.5
     pub negative: bool,
     pub whole: u64,
     // in parts of 10^16

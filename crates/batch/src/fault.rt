@@ -27,7 +27,7 @@ pub enum Mistake {
     OutOfMemory,
 }
 
-// With the word that it is about, or an empty one: no word is empty, so an Option would say none in two ways.
+// With the word that it is about, or an empty one: an empty name and no name are told alike, so an Option would tell apart what is one.
 #[derive(Clone, Copy, Debug, PartialEq, Eq)]
 pub enum Fault<'a> {
     Mistaken(Mistake, &'a str),
@@ -103,6 +103,7 @@ impl From<Reason> for Fault<'_> {
     }
 }
 
+// The library's two errors of memory have no trait in common, so each has an impl.
 impl From<AllocError> for Fault<'_> {
     ghost from_gives = { λ _ r. objection r ≡ no_memory };
 

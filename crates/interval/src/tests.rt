@@ -12,6 +12,7 @@ use crate::variable::Variable;
 use std::cmp::Ordering;
 use std::test::Fail;
 
+// As in the tests of other crates, which share no code with these.
 fn span(lower: i64, upper: i64) -> Interval
     ensures { result ≡ record { lower = lower; upper = upper } }
 {

@@ -12,7 +12,7 @@ use polynomial::{Polynomial, Term, reach};
 #[derive(Clone, Copy, Debug)]
 pub struct Plain;
 
-// The plain range of any coefficients up to 2^48: they need not fit. A loop of its own over the terms, as the rules say; it shares
+// The plain range of any coefficients up to 2^48: they need not fit. A loop of its own over the terms, by a rule of the project; it shares
 // three lines with the quadratic range, fewer than the contract of a function that took the part of a term as a closure.
 pub fn plain_range(terms: &[Term]) -> Interval
     requires { Addable terms.now }

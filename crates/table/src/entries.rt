@@ -5,7 +5,7 @@ ghost use Rattle.std.specs.Prelude.{◌≤◌, length};
 #[derive(Clone, Copy, Debug)]
 pub struct Full;
 
-// The first `count` places are in use. Made anew for each use of a record's entries and count.
+// The first `count` places are in use. Made anew for each use of a record's entries and count, which lie in fixed memory by a rule of the project.
 #[derive(Drop)]
 pub struct Table<'a, E> {
     pub entries: &'a mut [E],

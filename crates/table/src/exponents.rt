@@ -2,6 +2,8 @@
 ghost use Rattle.std.specs.Prelude.{◌≡◌, ◌+◌, ◌≤◌};
 ghost use Rattle.table.specs.Monomial.{degree, even, multiplied, root};
 
+use std::array;
+
 pub type Monomial = [u8; 6];
 
 // The sum of the exponents.
@@ -21,16 +23,12 @@ pub fn all_even(monomial: Monomial) -> bool
     monomial.iter().all(|exponent| *exponent % 2 == 0)
 }
 
-// Adds the exponents place by place. The place is counted: of two iterators side by side, one of which writes, a proof knows the length alone.
+// Adds the exponents place by place.
 pub fn product(a: Monomial, b: Monomial) -> Monomial
     requires { degree a + degree b ≤ 255 }
     ensures value { result ≡ multiplied a b }
 {
-    let mut sums = a;
-    for (i, exponent) in b.iter().enumerate() {
-        sums[i] += *exponent;
-    }
-    sums
+    array::from_fn(|i| a[i] + b[i])
 }
 
 // Halves the exponents.

@@ -34,7 +34,7 @@ pub trait Entry: Copy {
     ghost keeps: { (a b : Self) → keyed (joined a b) ≡ keyed a };
 }
 
-// Looks from the front, with one comparison a key, as the rules say, so it is no binary search: Ok has the place where the key stands,
+// Looks from the front, with one comparison a key, by a rule of the project, so it is no binary search: Ok has the place where the key stands,
 // Err the one where it would come.
 pub fn search<E: Entry>(entries: &[E], key: E::Key) -> Result<usize, usize>
     ensures value { result ≡ sought E.Key.TotalOrder.order E.keyed entries.now key }

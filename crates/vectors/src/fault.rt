@@ -28,6 +28,7 @@ impl From<ParseIntError> for Fault {
     }
 }
 
+// The library's two errors of memory have no trait in common, so each has an impl.
 impl From<AllocError> for Fault {
     fn from(_e: AllocError) -> Fault {
         Fault::NoMemory

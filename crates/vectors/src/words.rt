@@ -80,6 +80,7 @@ impl<'a> Words<'a> {
     }
 }
 
+// By the byte: a char's `to_digit` gives a u32, which would have to be narrowed again.
 fn digit_value(byte: u8) -> Result<u8, Fault>
     ensures made { IfOk result (λ d. (d < 10) × (d + 48 ≡ byte)) }
 {

@@ -32,6 +32,7 @@ impl fmt::Display for Failure {
     }
 }
 
+// The library's two errors of memory have no trait in common, so each has an impl.
 impl From<AllocError> for Failure {
     fn from(_: AllocError) -> Self {
         Failure::Untold
