@@ -30,21 +30,27 @@ fn answer(rt: &HostRuntime, text: &str) -> Result<String, Failure> {
     for (n, line) in text.lines().enumerate() {
         let number = n.saturating_add(1);
         let words = words_of(heap, line)?;
-        let closes = take_words(heap, &mut desk, words.as_slice());
-        if closes.map_err(|fault| Failure::of_line(heap, number, fault))? {
-            closed = closed.saturating_add(1);
-            let report = PolynomialReport {
-                number: closed,
-                desk: &desk,
-            };
-            write!(ranges, "{report}")?;
+        // By its arms: `map_err` and `?` would move a `Failure`, which is large, for every line.
+        match take_words(heap, &mut desk, words.as_slice()) {
+            Ok(false) => {}
+            Ok(true) => {
+                closed = closed.saturating_add(1);
+                let report = PolynomialReport {
+                    number: closed,
+                    desk: &desk,
+                };
+                write!(ranges, "{report}")?;
+            }
+            Err(fault) => return Err(Failure::of_line(heap, number, fault)),
         }
         if number % LONG == 0 {
             eprintln!(rt; "zegborite: {number} lines worked")?;
         }
     }
+    // in front of the ranges, so that these are not held twice
     let report = BoxReport { desk: &desk };
-    Ok(format!(in heap; "{report}{ranges}")?)
+    ranges.insert_str(0, format!(in heap; "{report}")?.as_str())?;
+    Ok(ranges)
 }
 
 // The text of the file that the first argument names, else of standard input.
