@@ -1,21 +1,23 @@
 -- The work of a text depends on what its tokens name alone: from two grounds of the same order and size that run each of its tokens
 -- alike, it gives the same. Assumes nothing.
-use Rattle.std.proofs.Common.{◌≡◌, ℕ, Bool, true, false, eqb, List, [], ◌∷◌, length, get_or, Ok, Err, Result, refl, ap, ◌∙◌, ap₂}
+use Rattle.std.proofs.Common.{◌≡◌, ℕ, zero, suc, Bool, true, false, eqb, List, [], ◌∷◌, map, length, get_or, Ok, Err, Result, sym, refl, ap, ◌∙◌, ap₂}
 use Rattle.std.specs.List.{AllByRecursion}
+use Rattle.std.proofs.lemmas.List.{length-map}
 use Rattle.std.proofs.lemmas.Bool.{or_parts}
 use Rattle.interval.specs.declared.reason.Reason.{Reason}
+use Rattle.interval.specs.declared.variable.Variable.{Variable as Var}
 use Rattle.interval.specs.Reason.{and_then}
 use Rattle.interval.specs.Kind.{KindMeaning}
 use Rattle.polynomial.specs.Method.{MethodMeaning}
 use Rattle.taylor.specs.Model.{Model}
 use Rattle.taylor.specs.Arithmetic.{variable_model}
-use Rattle.taylor.specs.Product.{worked, power, times_worked}
+use Rattle.taylor.specs.Product.{Worked, worked, power, times_worked}
 use Rattle.formula.specs.declared.token.Token.{Token}
 use Rattle.formula.specs.declared.token.Token.TheVariants.{Constant, Variable, Line, Power, Add, Subtract, Multiply}
 use Rattle.formula.specs.Token.{Item, items, added, read_tokens, tokens}
 use Rattle.formula.specs.Fault.{at_place}
 use Rattle.formula.specs.Admitted.{admitted}
-use Rattle.formula.specs.Work.{Ground, Stack, stack, no_variable, no_line, push, unary, binary, concluded, run_token, run_items, work}
+use Rattle.formula.specs.Work.{Ground, ground, Stack, stack, no_variable, no_line, push, unary, binary, concluded, run_token, run_items, work}
 use Rattle.formula.specs.Meaning.{token_uses, any_uses}
 
 -- two grounds of the same order and size
@@ -107,3 +109,39 @@ module _ (k : KindMeaning) (m : MethodMeaning) (v : ℕ) (marks : List Bool) (g 
   -- a text that does not use the variable, through all lines, gives the same
   pub same_unused : (text : List ℕ) → any_uses v marks (tokens text) ≡ false → work k m g text ≡ work k m h text
   same_unused text u = same-work k m g h A.matches text (all_same (tokens text) u)
+
+-- ---- lines with the same models and clean marks
+pub record Alike (ls ns : List Worked) : Type 0 where
+  pub models : map (λ w. w.model) ls ≡ map (λ w. w.model) ns
+  pub cleans : map (λ w. w.clean) ls ≡ map (λ w. w.clean) ns
+
+entry_mapped : {A : Type 0} (f : Worked → A) (ls : List Worked) (n : ℕ) (d : Worked) → get_or (map f ls) n (f d) ≡ f (get_or ls n d)
+entry_mapped f [] n d = refl
+entry_mapped f (l ∷ ls) zero d = refl
+entry_mapped f (l ∷ ls) (suc n) d = entry_mapped f ls n d
+
+module _ (k : KindMeaning) (m : MethodMeaning) (order : ℕ) (box : List Var) (ls ns : List Worked) (A : Alike ls ns) where
+  lines_same : (n : ℕ) → SameLine (ground order box ls) (ground order box ns) n
+  lines_same n = record {
+    model = sym (entry_mapped (λ (w : Worked). w.model) ls n no_line) ∙ ap (λ (Ms : List Model). get_or Ms n no_line.model) A.models ∙ entry_mapped (λ (w : Worked). w.model) ns n no_line;
+    clean = sym (entry_mapped (λ (w : Worked). w.clean) ls n no_line) ∙ ap (λ (bs : List Bool). get_or bs n no_line.clean) A.cleans ∙ entry_mapped (λ (w : Worked). w.clean) ns n no_line;
+  }
+
+  names-alike : (t : Token) → NamesSame (ground order box ls) (ground order box ns) t
+  names-alike (Constant x) = tt
+  names-alike (Variable w) = refl
+  names-alike (Line n) = lines_same n
+  names-alike (Power e) = tt
+  names-alike Add = tt
+  names-alike Subtract = tt
+  names-alike Multiply = tt
+
+  all_alike : (ts : List Token) → AllByRecursion (NamesSame (ground order box ls) (ground order box ns)) ts
+  all_alike [] = tt
+  all_alike (t ∷ ts) = (names-alike t, all_alike ts)
+
+  -- the pairs of the lines below do not matter
+  pub same_alike : (text : List ℕ) → work k m (ground order box ls) text ≡ work k m (ground order box ns) text
+  same_alike text =
+      let long = sym (length-map ls (λ (w : Worked). w.model)) ∙ ap length A.models ∙ length-map ns (λ (w : Worked). w.model) in
+      same-work k m (ground order box ls) (ground order box ns) (record { order = refl; variables = refl; lines = long }) text (all_alike (tokens text))

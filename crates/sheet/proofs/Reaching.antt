@@ -1,12 +1,13 @@
 -- A log leads to one sheet, which is that after its turns; and a list of turns leads to the sheet after them. Assumes nothing.
-use Rattle.std.proofs.Common.{◌≡◌, List, [], ◌∷◌, ◌++◌, map, Ok, sym, refl, ap, ◌∙◌, subst, append_assoc, append-nil}
+use Rattle.std.proofs.Common.{◌≡◌, List, [], ◌∷◌, ◌++◌, map, Ok, Result, sym, refl, ap, ◌∙◌, subst, append_assoc, append-nil}
 use Rattle.std.proofs.lemmas.List.{map_push}
+use Rattle.interval.specs.declared.refusal.Refusal.{Refusal}
 use Rattle.interval.specs.Kind.{KindMeaning}
 use Rattle.polynomial.specs.Method.{MethodMeaning}
 use Rattle.taylor.proofs.Results.{same-value}
-use Rattle.sheet.specs.State.{State}
+use Rattle.sheet.specs.State.{State, Outcome, outcome}
 use Rattle.sheet.specs.Opening.{Opening, open_sheet}
-use Rattle.sheet.specs.Turn.{Turn, step, run}
+use Rattle.sheet.specs.Turn.{Turn, Answer, step, run}
 use Rattle.sheet.specs.Reached.{Event, event, Log, logged, Reached, opens, turns, RunsReach, ReachedOnce}
 
 module _ (k : KindMeaning) (m : MethodMeaning) where
@@ -16,6 +17,11 @@ module _ (k : KindMeaning) (m : MethodMeaning) where
   run-push s (x ∷ ts) t = run-push (step k m s x).state ts t
 
   module _ (given : Opening) where
+    -- one turn, as a call tells it: what it leaves and what it answers
+    pub reach-turn : {log : Log} {s new : State} {a : Result Answer Refusal} (t : Turn) → outcome new a ≡ step k m s t → Reached k m given log s →
+        Reached k m given (log ++ (event t a ∷ [])) new
+    reach-turn {log} t e R = subst (λ (o : Outcome Answer). Reached k m given (log ++ (event t o.answer ∷ [])) o.state) (sym e) (turns R t)
+
     -- further turns, one after the other
     reach_more : (ts : List Turn) {log : Log} {s : State} → Reached k m given log s → Reached k m given (log ++ logged k m s ts) (run k m s ts)
     unfolding logged run

@@ -1,5 +1,5 @@
 -- What one pair leaves in the record of the model that is gathered. Assumes nothing.
-use Rattle.std.proofs.Common.{◌≡◌, ℕ, ◌-◌, ◌^◌, ◌≤◌, length, take, Some, sym, subst, lit≤}
+use Rattle.std.proofs.Common.{◌≡◌, ℕ, ◌-◌, ◌^◌, ◌≤◌, List, length, take, Some, sym, subst, lit≤}
 use Rattle.std.specs.List.{AllByRecursion}
 use Rattle.std.proofs.ByRecursion.{All-weaker}
 use Rattle.interval.specs.declared.marks.Interval.{Interval}
@@ -16,7 +16,12 @@ use Rattle.taylor.specs.Model.{unpacked}
 use Rattle.taylor.specs.Form.{InPlaces}
 use Rattle.taylor.specs.Gathering.{Open}
 use Rattle.polynomial.proofs.Reaches.{sized-reach}
+use Rattle.taylor.proofs.Packed.{Places}
 use Rattle.taylor.proofs.Summing.{term-entered}
+
+-- the terms of a packed record
+pub packed_here : (N : ModelRecord) (ts : List Term) → Places N.terms N.count ts → InPlaces N
+packed_here N ts p = rw (packs_front 40 zero_term N.terms N.count ts p) p
 
 module _ (M : ModelRecord) (o : Open M) where
   pub open_joins : (i : Interval) → Fits i → AllByRecursion (λ u. Summable u.coefficient × Summable i) (take M.count M.terms)
@@ -29,5 +34,4 @@ module _ (M : ModelRecord) (o : Open M) where
   -- the places once t is entered
   pub entered_places : (t : Term) (N : ModelRecord) → Some N.count ≡ new_count (length M.terms) (with_term (take M.count M.terms) t) → N.terms ≡ over (with_term (take M.count M.terms) t) M.terms → InPlaces N
   entered_places t N count terms =
-      let p = term-entered M.terms M.count (unpacked M).terms o.packs t N.terms N.count count terms in
-      rw (packs_front 40 zero_term N.terms N.count _ p) p
+      packed_here N _ (term-entered M.terms M.count (unpacked M).terms o.packs t N.terms N.count count terms)

@@ -19,7 +19,7 @@ use Rattle.taylor.proofs.Results.{same-value, and_then_ok}
 use Rattle.taylor.proofs.Made.{test_made, pairs-counted}
 use Rattle.taylor.proofs.Sizes.{one-fits}
 use Rattle.taylor.proofs.Forms.{constant_formed}
-use Rattle.taylor.proofs.Tests.{times-kept}
+use Rattle.taylor.proofs.Tests.{times-kept, power-kept}
 use Rattle.taylor.proofs.Keeps.{packing}
 use Rattle.taylor.proofs.Multiplied.{and_then_err, formed_held}
 
@@ -96,3 +96,10 @@ module _ (k : KindMeaning) (m : MethodMeaning) (order : ℕ) (M : Model) where
   pub power_none : (n : ℕ) → n ≡ 0 → (r : ModelRecord) → r ≡ packed (one k) → (x : Result WorkedRecord Reason) → x ≡ recorded_worked (and_then (tested m (unpacked r)) (λ N. Ok (worked N 0 true))) → x ≡ recorded_worked (power k m order n M)
   unfolding power
   power_none n z r e x h = h ∙ ap (λ N. recorded_worked (and_then (tested m N) (λ N. Ok (worked N 0 true)))) (ap unpacked e ∙ packing.back (one k)) ∙ ap (λ j. recorded_worked (power k m order j M)) (sym z)
+
+-- its record is an operand again
+pub power_ready : (k : KindMeaning) (m : MethodMeaning) (order n : ℕ) (r : ModelRecord) (W : WorkedRecord) → order ≤ greatest_order → Ready m r → Ok W ≡ recorded_worked (power k m order n (unpacked r)) → Ready m W.model
+power_ready k m order n r W low h e =
+    let c = and_then_ok (power k m order n (unpacked r)) (λ v. Ok (packed_worked v)) (sym e) in
+    let t = power-kept k m order greatest_order n (unpacked r) c.0 low h.tested h.canonical.degrees c.1 in
+    tested_ready m greatest_order c.0.model W.model (lit≤ tt) t.0 t.1 (ap (λ (R : WorkedRecord). R.model) (sym (same-value c.2)))
