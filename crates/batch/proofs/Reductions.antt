@@ -31,9 +31,9 @@ dropped_front old new count n long few size after =
 pub dropped-canonical : (ts : List Term) → canonical ts ≡ true → canonical (dropped ts) ≡ true
 dropped-canonical ts c = canonical_from (dropped ts) (drops_ascend by_degree (λ t. t.monomial) _ ts (ascends ts c)) (all_kept_by _ Fitting ts (fitted ts c))
 
-pub dropped_polynomial : (ts : List Term) → length ts ≤ 40 → canonical ts ≡ true → Polynomial (dropped ts)
+pub dropped_polynomial : (ts : List Term) → length (dropped ts) ≤ 40 → canonical ts ≡ true → Polynomial (dropped ts)
 dropped_polynomial ts few c = record {
-  few = omega (arith, few, dropped-length ts);
+  few = few;
   ascends = drops_ascend by_degree (λ t. t.monomial) _ ts (ascends ts c);
   fit = all_both Fitting (λ t. not (is_zero t.coefficient) ≡ true) FitTerm (λ t f s. record { six = f.six; fit = f.fit; some = search rules }) (dropped ts)
       (all_kept_by _ Fitting ts (fitted ts c)) (kept_by_passes _ ts);

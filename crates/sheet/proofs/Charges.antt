@@ -74,7 +74,7 @@ module _ (s : Inside) (shape : Shape s) (t : State) (seen : state_of s ≡ t) (o
       λ i. with_accounts s (q.size i) (q.whole i)
 
   -- what stands in the record then
-  charged-accounts : (state_of (charged_record s o n)).accounts ≡ charged es o n
+  pub charged-accounts : (state_of (charged_record s o n)).accounts ≡ charged es o n
   charged-accounts = take_at (charged es o n) _ (length (charged es o n)) refl
 
   charged-shape : Shape (charged_record s o n)

@@ -10,7 +10,7 @@ use Rattle.sheet.specs.Records.{zero_line, line_of, state_of, record_of_line, re
 use Rattle.sheet.specs.Shape.{LineShape, Shape}
 
 -- a line's record is that of its text and of what it gave
-same_line : (l : LineRecord) → LineShape l → record_of_line (line_of l) ≡ l
+pub same_line : (l : LineRecord) → LineShape l → record_of_line (line_of l) ≡ l
 same_line l shape = λ i. record {
   office = l.office;
   text = sym shape.text.whole i;

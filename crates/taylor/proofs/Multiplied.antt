@@ -22,7 +22,7 @@ use Rattle.taylor.specs.Model.{Model, model, packed, unpacked, tested}
 use Rattle.taylor.specs.Form.{greatest_order, Normal, Formed}
 use Rattle.taylor.specs.Product.{Worked, worked, three_fit, joint_remainder, product, times_worked}
 use Rattle.taylor.specs.Keeping.{room}
-use Rattle.taylor.specs.Record.{Held, Ready, recorded, passed, recorded_worked}
+use Rattle.taylor.specs.Record.{Held, recorded, passed, recorded_worked}
 use Rattle.taylor.specs.Gathering.{Tally, product_tally, roomy, completed, tally_of, counted}
 use Rattle.taylor.proofs.Results.{same-value, not_refused, and_then_ok, require_ok, require_yes}
 use Rattle.taylor.proofs.Made.{test_made}
@@ -42,8 +42,8 @@ and_then_err (Ok x) f e h = absurd (not_refused h)
 and_then_err (Err d) f e h = ap Err (sym (same_reason h))
 
 -- ---- the pairs
-pub pairs-few : {m : MethodMeaning} {a b : ModelRecord} → Ready m a → Ready m b → length (unpacked a).terms * length (unpacked b).terms ≤ 1600
-pairs-few f g = omega (arith, mul-le-mul f.canonical.packs.fits g.canonical.packs.fits)
+pub pairs-few : (a b : ModelRecord) → length (unpacked a).terms ≤ 40 → length (unpacked b).terms ≤ 40 → length (unpacked a).terms * length (unpacked b).terms ≤ 1600
+pairs-few a b f g = omega (arith, mul-le-mul f g)
 
 -- a refusal is the same whatever would have come
 refused-same : {A B : Type 0} (b : Bool) (d e : Reason) (x : A) (r : Result B Reason) → Err e ≡ require b d (Ok x) → Err e ≡ require b d r

@@ -79,12 +79,12 @@ module _ (k : KindMeaning) (order : ℕ) where
       pub rows_refused : (y G : Tally) (e : Reason) → Err e ≡ roomy (tally k order y (row S (get_or ps i unread) qs)).model → tally k order y (pairs S (drop i ps) qs) ≡ G → Err e ≡ roomy G.model
       rows_refused y G e r q = refused_early (tally k order y (row S (get_or ps i unread) qs)) G (pairs S (drop (i + 1) ps) qs) e r (rows_more y ∙ q)
 
-      pub rows_again : (y z G : Tally) → z ≡ tally k order y (row S (get_or ps i unread) qs) → y.pairs ≡ i * length qs → tally k order y (pairs S (drop i ps) qs) ≡ G
-          → (z.pairs ≡ (i + 1) * length qs) × (tally k order z (pairs S (drop (i + 1) ps) qs) ≡ G)
-      rows_again y z G e c q =
+      pub rows_again : (n : ℕ) (y z G : Tally) → z ≡ tally k order y (row S (get_or ps i unread) qs) → y.pairs ≡ n + i * length qs → tally k order y (pairs S (drop i ps) qs) ≡ G
+          → (z.pairs ≡ n + (i + 1) * length qs) × (tally k order z (pairs S (drop (i + 1) ps) qs) ≡ G)
+      rows_again n y z G e c q =
           let count = ap (λ u. u.pairs) e ∙ row_counted (get_or ps i unread) qs y in
           (count ∙ omega (arith, add-mul i 1 (length qs)), ap (λ u. tally k order u (pairs S (drop (i + 1) ps) qs)) e ∙ rows_more y ∙ q)
 
       -- there is room for one row more
-      pub rows_few : (y : Tally) → length ps * length qs ≤ 1600 → y.pairs ≡ i * length qs → y.pairs + length qs ≤ 1600
-      rows_few y most c = omega (arith, add-mul i 1 (length qs), mul-le-mul_right (length qs) (add-one-le h))
+      pub rows_few : (n : ℕ) (y : Tally) → n + length ps * length qs ≤ 1600 → y.pairs ≡ n + i * length qs → y.pairs + length qs ≤ 1600
+      rows_few n y most c = omega (arith, add-mul i 1 (length qs), mul-le-mul_right (length qs) (add-one-le h))

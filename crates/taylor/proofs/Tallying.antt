@@ -18,7 +18,7 @@ use Rattle.taylor.specs.Gathering.{held_hull, held, Open}
 use Rattle.taylor.proofs.Drafts.{draft_more, keep-one, cut-one}
 use Rattle.taylor.proofs.Operands.{ascending-one}
 
-held_fits : (i : Interval) → i.lower ≤ℤ i.upper → Fits (held_hull i)
+pub held_fits : (i : Interval) → i.lower ≤ℤ i.upper → Fits (held_hull i)
 held_fits i o = go (fits i) refl
   where
     go : (b : Bool) → fits i ≡ b → Fits (cond b i zero_interval)

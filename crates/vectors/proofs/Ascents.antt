@@ -12,17 +12,18 @@ module _ {E K : Type 0} (o : Order K) (key : E → K) where
   is_below x y = is_lt (o.rank (key x) (key y))
 
   -- the key at place i is below the next one
-  abbrev Rises : List E → E → ℕ → Type 0
+  abbrev pub Rises : List E → E → ℕ → Type 0
   Rises es d i = o.rank (key (get_or es i d)) (key (get_or es (suc i) d)) ≡ Less
 
-  abbrev Rising : List E → Type 0
-  Rising es = (d : E) (i : ℕ) → suc i < length es → Rises es d i
+  -- it is so at each place whose next one is below n
+  abbrev pub Rising : List E → ℕ → Type 0
+  Rising es n = (d : E) (i : ℕ) → suc i < n → Rises es d i
 
   next : (x d : E) (xs : List E) → (1 < length (x ∷ xs) → Rises (x ∷ xs) d 0) → Next o key (key x) xs
   next x d [] h = tt
   next x d (y ∷ ys) h = h (omega arith)
 
-  ascending : (es : List E) → Rising es → Ascending o key es
+  pub ascending : (es : List E) → Rising es (length es) → Ascending o key es
   ascending [] h = tt
   ascending (x ∷ xs) h = (next x x xs (h x 0), ascending xs (λ d i below. h d (suc i) (omega arith)))
 
@@ -30,7 +31,7 @@ module _ {E K : Type 0} (o : Order K) (key : E → K) where
   first x d [] h below = absurd (omega arith)
   first x d (y ∷ ys) h below = h
 
-  rising : (es : List E) → Ascending o key es → Rising es
+  pub rising : (es : List E) → Ascending o key es → Rising es (length es)
   rising [] h d i below = absurd (omega arith)
   rising (x ∷ xs) h d zero below = first x d xs h.0 below
   rising (x ∷ xs) h d (suc i) below = rising xs h.1 d i (omega arith)

@@ -1,5 +1,5 @@
 -- Each way out by the row at the place.
-use Rattle.std.proofs.Common.{sym, ap, ◌∙◌, subst, get_or}
+use Rattle.std.proofs.Common.{sym, ap, ◌∙◌, subst, get_or, arith}
 use Rattle.std.specs.List.{AllByRecursion}
 use Rattle.std.proofs.ByRecursion.{All-get_or}
 use Rattle.polynomial.proofs.Coefficients.{unread}
@@ -20,7 +20,7 @@ take_row-requires g c =
     let first = c.used-p-items.ensures.value in
     let second = c.used.ensures.value in
     record {
-      few = rw second (rows_few (g.K.Kind.meaning p.by.now.kind.now) p.by.now.order c.used-p-items.result.now (unpacked p.b.now).terms c.loop-p.p-index c.loop-p-test.true (tally_of c.loop-p.tally) (rw first (pairs-few a b)) c.loop-p.invariant.0);
+      few = rw second (rows_few (g.K.Kind.meaning p.by.now.kind.now) p.by.now.order c.used-p-items.result.now (unpacked p.b.now).terms c.loop-p.p-index c.loop-p-test.true 0 (tally_of c.loop-p.tally) (rw first (omega (arith, pairs-few p.a.now p.b.now a.canonical.packs.fits b.canonical.packs.fits))) (omega (arith, c.loop-p.invariant.0)));
       factors = (All-get_or Factor _ c.loop-p.p-index unread c.loop-p-test.true (subst (AllByRecursion Factor) (sym first) (ready_factors a)), subst (AllByRecursion Factor) (sym second) (ready_factors b));
     }
 
@@ -43,8 +43,8 @@ loop-p-preserved g c =
     let ps = c.used-p-items.result.now in
     let i = c.loop-p.p-index in
     let came = c.in_ok-take_row.ensures.took.after ∙ ap (λ us. tally k p.by.now.order y (row k.scale (get_or ps i unread) us)) c.used.ensures.value in
-    let more = rows_again k p.by.now.order ps (unpacked p.b.now).terms i c.loop-p-test.true y (tally_of c.take_row.new.self) _ came c.loop-p.invariant.0 c.loop-p.invariant.1 in
-    (more.0, more.1)
+    let more = rows_again k p.by.now.order ps (unpacked p.b.now).terms i c.loop-p-test.true 0 y (tally_of c.take_row.new.self) _ came (omega (arith, c.loop-p.invariant.0)) c.loop-p.invariant.1 in
+    (omega (arith, more.0), more.1)
 
 pub returns : goal.returns
 returns g c =
