@@ -5,8 +5,8 @@ use Rattle.interval.specs.declared.reason.Reason.{Reason}
 use Rattle.interval.specs.declared.reason.Reason.TheVariants.{TooManyMonomials, DoesNotFit}
 use Rattle.interval.specs.Interval.{fits}
 use Rattle.polynomial.specs.declared.term.Term.{Term}
-use Rattle.polynomial.specs.Reach.{with_term}
-use Rattle.polynomial.specs.Terms.{all_fit}
+pub use Rattle.polynomial.specs.Reach.{with_term, zero_term}
+pub use Rattle.polynomial.specs.Terms.{all_fit, new_count}
 use Rattle.table.specs.Order.{rank_monomials}
 
 -- six exponents, and a coefficient that fits, which may be [0, 0]

@@ -16,5 +16,6 @@ pub mod Running
 pub mod Standing
 pub mod Promise
 pub mod Consistency
+pub mod WorkLaws
 pub mod Figures
 pub mod LargerFigures
